@@ -1,0 +1,31 @@
+-- What the world outside does to the machine between two steps.
+use Rattle.std.specs.Prelude.{◌≡◌, ◌+◌, ◌-◌, ◌<◌, ◌≤◌, length, if◌then◌else◌}
+use Rattle.partition.specs.declared.event.Event.{Event}
+use Rattle.partition.specs.declared.event.Event.TheVariants.{Room}
+use Rattle.partition.specs.declared.event.LoneStep.{LoneStep}
+use Rattle.partition.specs.declared.event.LoneStep.TheVariants.{Quiet, Sent, NotBuilt}
+use Rattle.partition.specs.Machine.{Machine, is_channel, port_of, ports_with}
+use Rattle.partition.specs.Step.{Act, Nothing, Sends, Unbuilt}
+
+-- the machine after an event: where the other end took bytes, so many fewer are outstanding
+unfoldable pub apply : Machine → Event → Machine
+apply machine (Room handle count) =
+    if is_channel handle then record machine { ports = ports_with machine handle ((port_of machine handle).outstanding - count) } else machine
+
+-- what a LoneStep tells: the built-in machine's one handle is 1
+abbrev pub act_of : LoneStep → Act
+act_of Quiet = Nothing
+act_of (Sent bytes) = Sends 1 bytes.items
+act_of NotBuilt = Unbuilt
+
+-- a Sent has bytes, and no more than a hypercall takes
+abbrev pub HasBytes : LoneStep → Type 0
+HasBytes Quiet = Unit {0}
+HasBytes (Sent bytes) = (0 < length bytes.items) × (length bytes.items ≤ 16)
+HasBytes NotBuilt = Unit {0}
+
+-- a step that was done is counted, and one that was not leaves the machine
+abbrev pub IsCounted : LoneStep → Machine → Machine → Type 0
+IsCounted Quiet old new = new.steps ≡ old.steps + 1
+IsCounted (Sent bytes) old new = new.steps ≡ old.steps + 1
+IsCounted NotBuilt old new = new ≡ old

@@ -1,0 +1,22 @@
+use arrayvec::ArrayVec;
+
+/// What one step did that others see.
+#[derive(Debug, Drop)]
+pub enum LoneStep {
+    /// Nothing.
+    Quiet,
+    /// The partition sent these bytes, at least one, on handle 1.
+    Sent(ArrayVec<u8, 16>),
+    /// The machine doesn't know what to do there yet. It has not moved.
+    NotBuilt,
+}
+
+/// What the world outside does to the machine between two steps.
+#[derive(Clone, Copy, Debug, PartialEq, Eq)]
+pub enum Event {
+    /// The other end of the channel `handle` took so many of the bytes that the partition sent there.
+    ///
+    /// No caller gives it for a handle that is no channel, or with more bytes than were outstanding: the
+    /// first would change nothing, and the second would leave none outstanding.
+    Room { handle: u32, count: u16 },
+}

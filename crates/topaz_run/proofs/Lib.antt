@@ -1,0 +1,3 @@
+pub mod Spellings
+pub mod Turns
+pub mod Images

@@ -1,0 +1,62 @@
+ghost use Rattle.std.specs.Prelude.{◌≡◌, ◌≤◌, IfOk, IfErr, IfSome, IsErrOf, length};
+ghost use Rattle.outside.specs.Fault.{Rose};
+ghost use Rattle.outside.specs.Content.{cut, file_of};
+ghost use Rattle.topaz_run.specs.Outcome.{Refused, bare, with_file};
+ghost use Rattle.topaz_run.specs.Text.{refused_line};
+ghost use Rattle.topaz_run.specs.Answers.{answered};
+
+use crate::run::run;
+use crate::status::{Answer, Stop};
+use crate::text::push_refused;
+use outside::{FILE_LIMIT, FileFault, Files, NoMemory, read_all};
+use std::alloc::Global;
+
+// The most bytes that the built-in machine's memory takes.
+const MEMORY_SIZE: usize = 65_536;
+
+// Reads the image of that name, and answers what its run writes.
+pub fn bare<F: Files>(alloc: Global, files: &mut F, image: &str, turns: u64) -> Result<Answer, Stop>
+    requires { turns ≤ 1000000000000 }
+    ensures answer { IfOk result (λ answer. IfSome (F.content files.old) (λ content.
+        with_file (file_of content image.now) (bare image.now turns) ≡ answered answer)) }
+    ensures read_fault { IsErrOf result Stop.ReadFault → Rose (F.faults files.old) (F.faults files.new) }
+    ensures blamed { IsErrOf result Stop.ReadFault → F.blamed files.new ≡ cut image.now }
+    ensures counted { F.faults files.old ≤ F.faults files.new }
+{
+    match read_all(alloc, files, image) {
+        Ok(bytes) => run_image(alloc, image, bytes.as_slice(), turns),
+        Err(FileFault::TooLong) => refuse(alloc, "F1", image),
+        Err(FileFault::Fault) => Err(Stop::ReadFault),
+        Err(FileFault::NoMemory) => Err(Stop::NoMemory),
+    }
+}
+
+fn run_image(alloc: Global, name: &str, image: &[u8], turns: u64) -> Result<Answer, Stop>
+    requires few { turns ≤ 1000000000000 }
+    requires short { length image.now ≤ FILE_LIMIT }
+    ensures answer { IfOk result (λ answer. bare name.now turns image.now ≡ answered answer) }
+    ensures memory { IfErr result (λ stop. stop ≡ Stop.NoMemory) }
+{
+    if image.len() > MEMORY_SIZE {
+        return refuse(alloc, "I4", name);
+    }
+    match run(alloc, image, turns) {
+        Ok(report) => Ok(if report.is_built {
+            Answer::Done(report.text)
+        } else {
+            Answer::Refused(report.text)
+        }),
+        Err(NoMemory) => Err(Stop::NoMemory),
+    }
+}
+
+fn refuse(alloc: Global, rule: &str, place: &str) -> Result<Answer, Stop>
+    ensures answer { IfOk result (λ answer. Refused (refused_line rule.now place.now) ≡ answered answer) }
+    ensures memory { IfErr result (λ stop. stop ≡ Stop.NoMemory) }
+{
+    let mut text = String::new(alloc);
+    match push_refused(&mut text, rule, place) {
+        Ok(()) => Ok(Answer::Refused(text)),
+        Err(NoMemory) => Err(Stop::NoMemory),
+    }
+}

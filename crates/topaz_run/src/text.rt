@@ -1,0 +1,59 @@
+ghost use Rattle.std.specs.Prelude.{◌≡◌, ◌++◌, OnOk, codes, string_bytes};
+ghost use Rattle.topaz_run.specs.Text.{sent_line, running_line, console_line, refused_line, step_place};
+
+use outside::NoMemory;
+use std::alloc::Global;
+
+// Appends that the partition sent these bytes on the handle, at its own step.
+pub fn push_sent(
+    alloc: Global,
+    text: &mut String,
+    name: &str,
+    step: u64,
+    handle: u32,
+    bytes: &[u8],
+) -> Result<(), NoMemory>
+    ensures { OnOk result (string_bytes text.new ≡ string_bytes text.old ++ sent_line name.now step handle bytes.now) }
+{
+    let hex = hex::encode(alloc, bytes)?;
+    writeln!(text, "{name} {step} sent {handle} {hex}")?;
+    Ok(())
+}
+
+// Appends that the partition runs after so many own steps.
+pub fn push_running(text: &mut String, name: &str, steps: u64) -> Result<(), NoMemory>
+    ensures { OnOk result (string_bytes text.new ≡ string_bytes text.old ++ running_line name.now steps) }
+{
+    writeln!(text, "end {name} running {steps}")?;
+    Ok(())
+}
+
+// Appends how many bytes the console printed, how many entered it and how many wait.
+pub fn push_console(
+    text: &mut String,
+    name: &str,
+    printed: u64,
+    entered: u64,
+    waiting: u64,
+) -> Result<(), NoMemory>
+    ensures { OnOk result (string_bytes text.new ≡ string_bytes text.old ++ console_line name.now printed entered waiting) }
+{
+    writeln!(text, "console {name} {printed} {entered} {waiting}")?;
+    Ok(())
+}
+
+// Appends that the rule is broken at the place.
+pub fn push_refused(text: &mut String, rule: &str, place: &str) -> Result<(), NoMemory>
+    ensures { OnOk result (string_bytes text.new ≡ string_bytes text.old ++ refused_line rule.now place.now) }
+{
+    writeln!(text, "refused {rule} at {place}")?;
+    Ok(())
+}
+
+// Appends that the partition's own step of that number can't be done.
+pub fn push_not_built(text: &mut String, step: u64) -> Result<(), NoMemory>
+    ensures { OnOk result (string_bytes text.new ≡ string_bytes text.old ++ refused_line (codes "N1") (step_place step)) }
+{
+    writeln!(text, "refused N1 at step {step}")?;
+    Ok(())
+}

@@ -1,0 +1,82 @@
+ghost use Rattle.std.specs.Prelude.{◌≡◌, ◌≢◌, ℕ, ◌≤◌, ◌↔◌, ◌⊎◌, List, map, length, None, IsErrOf, IfOk, IfSome, MatchResult, string_bytes, Contains};
+ghost use Rattle.outside.specs.Fault.{Rose};
+ghost use Rattle.outside.specs.Taken.{AppendsFront};
+ghost use Rattle.topaz_run.specs.Words.{KeepsLimits, command_of};
+ghost use Rattle.topaz_run.specs.Outcome.{Done, outcome, outcome_of, needs, needs_of, text_of};
+ghost use Rattle.topaz_run.specs.Answers.{Tells, Flushes, LeavesSink, answered};
+ghost use Rattle.topaz_run.specs.Meant.{meant};
+
+use crate::bare::bare;
+use crate::command::Command;
+use crate::deliver::deliver;
+use crate::status::{Answer, Status, Stop};
+use crate::words::command;
+use outside::{Failed, Files, Sink};
+use std::alloc::Global;
+
+/// Does what the words ask for.
+pub fn topaz<F: Files, S: Sink>(
+    alloc: Global,
+    words: &[String],
+    files: &mut F,
+    out: &mut S,
+) -> Status
+    // The status and the bytes written are those of the outcome.
+    ensures answer { IfSome (F.content files.old) (λ content.
+        Tells result (S.taken out.old) (S.taken out.new) (outcome (map string_bytes words.now) content)) }
+    ensures flushed { Flushes result (S.is_flushed out.new) }
+
+    // The causes of the other answers.
+    ensures usage { result ≡ Status.Usage ↔ (command_of (map string_bytes words.now) ≡ None) }
+    ensures untouched { LeavesSink result out.old out.new }
+    ensures read_fault { result ≡ Status.ReadFault → Rose (F.faults files.old) (F.faults files.new) }
+    ensures needed { result ≡ Status.ReadFault → IfSome (F.content files.old) (λ content.
+        Contains (needs (map string_bytes words.now) content) (F.blamed files.new)) }
+    ensures write_fault { result ≡ Status.WriteFault → Rose (S.faults out.old) (S.faults out.new) }
+    ensures front { result ≡ Status.WriteFault → IfSome (F.content files.old) (λ content.
+        AppendsFront (S.taken out.old) (S.taken out.new) (text_of (outcome (map string_bytes words.now) content))) }
+    ensures files_counted { F.faults files.old ≤ F.faults files.new }
+    ensures sink_counted { S.faults out.old ≤ S.faults out.new }
+
+    // What breaks no rule is done, unless a count rose or memory ran out.
+    ensures complete { IfSome (F.content files.old) (λ content. (text : List ℕ) → outcome (map string_bytes words.now) content ≡ Done text
+        → ¬ Rose (F.faults files.old) (F.faults files.new) → ¬ Rose (S.faults out.old) (S.faults out.new)
+        → (result ≡ Status.Ok) ⊎ (result ≡ Status.NoMemory)) }
+    ensures sure { IfSome (F.content files.old) (λ content. (n : ℕ) → length (text_of (outcome (map string_bytes words.now) content)) ≤ n
+        → S.SurelyTakes out.old n → (S.faults out.new ≡ S.faults out.old) × (result ≢ Status.WriteFault)) }
+{
+    let Some(command) = command(words) else {
+        return Status::Usage;
+    };
+    match answer(alloc, command, files) {
+        Ok(Answer::Done(text)) => status_of(deliver(out, text.as_bytes()), Status::Ok),
+        Ok(Answer::Refused(text)) => status_of(deliver(out, text.as_bytes()), Status::Refused),
+        Err(Stop::ReadFault) => Status::ReadFault,
+        Err(Stop::NoMemory) => Status::NoMemory,
+    }
+}
+
+// Does the command, up to the writing.
+fn answer<F: Files>(alloc: Global, command: Command<'_>, files: &mut F) -> Result<Answer, Stop>
+    requires { KeepsLimits (meant command) }
+    ensures answer { IfOk result (λ answer. IfSome (F.content files.old) (λ content.
+        outcome_of (meant command.entry) content ≡ answered answer)) }
+    ensures read_fault { IsErrOf result Stop.ReadFault → Rose (F.faults files.old) (F.faults files.new) }
+    ensures needed { IsErrOf result Stop.ReadFault → IfSome (F.content files.old) (λ content.
+        Contains (needs_of (meant command.entry) content) (F.blamed files.new)) }
+    ensures counted { F.faults files.old ≤ F.faults files.new }
+{
+    match command {
+        Command::Bare { image, turns } => bare(alloc, files, image, turns),
+    }
+}
+
+// What a delivery makes of the status.
+fn status_of(delivered: Result<(), Failed>, status: Status) -> Status
+    ensures { MatchResult delivered (λ _. result ≡ status) (λ _. result ≡ Status.WriteFault) }
+{
+    match delivered {
+        Ok(()) => status,
+        Err(Failed) => Status::WriteFault,
+    }
+}

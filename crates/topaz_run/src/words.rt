@@ -1,0 +1,27 @@
+ghost use Rattle.std.specs.Prelude.{◌≡◌, map, IfSome, MatchOption, Some, None, string_bytes};
+ghost use Rattle.topaz_run.specs.Words.{KeepsLimits, command_of};
+ghost use Rattle.topaz_run.specs.Meant.{meant};
+
+use crate::command::Command;
+use crate::number::number;
+
+// How many turns may be asked for.
+const MOST_TURNS: u64 = 1_000_000_000_000;
+
+// The command that the words ask for, if they are of a form.
+pub fn command<'a>(words: &'a [String]) -> Option<Command<'a>>
+    ensures meant { MatchOption result (command_of (map string_bytes words.now) ≡ None)
+        (λ command. command_of (map string_bytes words.now) ≡ Some (meant command)) }
+    ensures limits { IfSome result (λ command. KeepsLimits (meant command)) }
+{
+    match words {
+        [verb, image, turns] if verb.as_str() == "bare" => {
+            let turns = number(turns.as_str(), MOST_TURNS)?;
+            Some(Command::Bare {
+                image: image.as_str(),
+                turns,
+            })
+        }
+        _ => None,
+    }
+}
