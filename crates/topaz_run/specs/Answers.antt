@@ -1,5 +1,5 @@
 -- What an answer of the top call says of the outcome.
-use Rattle.std.specs.Prelude.{◌≡◌, ℕ, ⊤, Bool, true, List, Option, string_bytes}
+use Rattle.std.specs.Prelude.{◌≡◌, ℕ, ⊤, Bool, true, List, Option}
 use Rattle.std.specs.Io.KnownBytes.{Keeps, Appends}
 use Rattle.topaz_run.specs.declared.status.Status.{Status}
 use Rattle.topaz_run.specs.declared.status.Status.TheVariants as status
@@ -9,8 +9,8 @@ use Rattle.topaz_run.specs.Outcome.{Outcome, Misused, Lacking, Refused, Done}
 
 -- the outcome that an answer of a command is
 abbrev pub answered : Answer → Outcome
-answered (answer.Refused text) = Refused (string_bytes text)
-answered (answer.Done text) = Done (string_bytes text)
+answered (answer.Refused text) = Refused text.items
+answered (answer.Done text) = Done text.items
 
 -- The status is that of the outcome, and the taken bytes grew by its text. Nothing is said where a file or the sink failed, or
 -- memory ran out.

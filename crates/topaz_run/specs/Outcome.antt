@@ -1,9 +1,11 @@
 -- What the words mean over what the files contain, and which files they need.
-use Rattle.std.specs.Prelude.{ℕ, List, [], ◌∷◌, Option, None, Some, Bool, nat_lt, length, codes, if◌then◌else◌}
+use Rattle.std.specs.Prelude.{ℕ, List, [], ◌∷◌, ◌++◌, Option, None, Some, Bool, nat_lt, length, codes, decimal, if◌then◌else◌}
+use Rattle.dt_model.specs.Fault.{first_fault}
+use Rattle.dt_model.specs.Canonical.{rewritten, most_bytes}
 use Rattle.outside.specs.Content.{Content, file_of, cut}
 use Rattle.outside.specs.declared.reading.TheConstants.{FILE_LIMIT}
 use Rattle.partition.specs.Machine.{memory_size}
-use Rattle.topaz_run.specs.Words.{Command, Bare, command_of}
+use Rattle.topaz_run.specs.Words.{Command, Bare, Dtb, command_of}
 use Rattle.topaz_run.specs.Report.{run, fresh}
 use Rattle.topaz_run.specs.Text.{refused_line}
 
@@ -27,6 +29,26 @@ bare name turns image =
     else if nat_lt memory_size (length image) then Refused (refused_line (codes "I4") name)
     else let whole = run turns (fresh image) in reported whole.is_built whole.text
 
+-- a blob's rule of that number
+abbrev pub blob_rule : ℕ → List ℕ
+blob_rule number = codes "B" ++ decimal number
+
+-- a blob to write: B4 where it is too large to be read again
+abbrev pub writing : List ℕ → List ℕ → Outcome
+writing name blob =
+    if nat_lt most_bytes (length blob) then Refused (refused_line (blob_rule 4) name) else Done blob
+
+-- by the first rule that the bytes break, or else what they are rewritten to
+abbrev pub rewriting : List ℕ → List ℕ → Option ℕ → Outcome
+rewriting name bytes (Some rule) = Refused (refused_line (blob_rule rule) name)
+rewriting name bytes None = writing name (rewritten bytes)
+
+-- the canonical blob of the tree in a file: F1 where the file is too long to be read
+unfoldable pub dtb : List ℕ → List ℕ → Outcome
+dtb name bytes =
+    if nat_lt FILE_LIMIT (length bytes) then Refused (refused_line (codes "F1") name)
+    else rewriting name bytes (first_fault bytes)
+
 -- with a file, or without it
 abbrev pub with_file : Option (List ℕ) → (List ℕ → Outcome) → Outcome
 with_file None meaning = Lacking
@@ -34,6 +56,7 @@ with_file (Some bytes) meaning = meaning bytes
 
 abbrev pub outcome_of : Command → Content → Outcome
 outcome_of (Bare image turns) content = with_file (file_of content image) (bare image turns)
+outcome_of (Dtb file) content = with_file (file_of content file) (dtb file)
 
 abbrev pub outcome_if : Option Command → Content → Outcome
 outcome_if None content = Misused
@@ -53,6 +76,7 @@ text_of (Done text) = text
 -- last of them.
 abbrev pub needs_of : Command → Content → List (List ℕ)
 needs_of (Bare image turns) content = cut image ∷ []
+needs_of (Dtb file) content = cut file ∷ []
 
 abbrev pub needs_if : Option Command → Content → List (List ℕ)
 needs_if None content = []

@@ -1,5 +1,5 @@
 -- What the words of the command line ask for.
-use Rattle.std.specs.Prelude.{ℕ, ◌≤◌, List, [], ◌∷◌, Option, None, if◌then◌else◌, codes}
+use Rattle.std.specs.Prelude.{ℕ, ◌≤◌, ⊤, List, [], ◌∷◌, Option, None, Some, if◌then◌else◌, codes}
 use Rattle.std.specs.Option.{option_map}
 use Rattle.std.specs.Str.{bytes_eq}
 use Rattle.topaz_run.specs.Number.{number_of}
@@ -11,15 +11,19 @@ most_turns = 1000000000000
 pub data Command : Type 0 where
   -- the built-in machine on the image of that name, for so many turns
   Bare : List ℕ → ℕ → Command
+  -- the canonical blob of the tree in the file of that name
+  Dtb : List ℕ → Command
 
 abbrev pub bare_of : List ℕ → List ℕ → Option Command
 bare_of image turns = option_map (λ n. Bare image n) (number_of most_turns turns)
 
--- `bare IMAGE N`; every other list of words asks for nothing
+-- `bare IMAGE N` and `dtb FILE`; every other list of words asks for nothing
 abbrev pub command_of : List (List ℕ) → Option Command
+command_of (verb ∷ file ∷ []) = if bytes_eq verb (codes "dtb") then Some (Dtb file) else None
 command_of (verb ∷ image ∷ turns ∷ []) = if bytes_eq verb (codes "bare") then bare_of image turns else None
 command_of _ = None
 
 -- the numbers of a command keep their limits
 abbrev pub KeepsLimits : Command → Type 0
 KeepsLimits (Bare image turns) = turns ≤ most_turns
+KeepsLimits (Dtb file) = ⊤

@@ -1,13 +1,12 @@
 ghost use Rattle.std.specs.Prelude.{◌≡◌, ◌≤◌, IfOk, IfErr, IfSome, IsErrOf, length};
 ghost use Rattle.outside.specs.Fault.{Rose};
 ghost use Rattle.outside.specs.Content.{cut, file_of};
-ghost use Rattle.topaz_run.specs.Outcome.{Refused, bare, with_file};
-ghost use Rattle.topaz_run.specs.Text.{refused_line};
+ghost use Rattle.topaz_run.specs.Outcome.{bare, with_file};
 ghost use Rattle.topaz_run.specs.Answers.{answered};
 
+use crate::refuse::refuse;
 use crate::run::run;
 use crate::status::{Answer, Stop};
-use crate::text::push_refused;
 use outside::{FILE_LIMIT, FileFault, Files, NoMemory, read_all};
 use std::alloc::Global;
 
@@ -42,21 +41,10 @@ fn run_image(alloc: Global, name: &str, image: &[u8], turns: u64) -> Result<Answ
     }
     match run(alloc, image, turns) {
         Ok(report) => Ok(if report.is_built {
-            Answer::Done(report.text)
+            Answer::Done(report.text.into_bytes())
         } else {
-            Answer::Refused(report.text)
+            Answer::Refused(report.text.into_bytes())
         }),
-        Err(NoMemory) => Err(Stop::NoMemory),
-    }
-}
-
-fn refuse(alloc: Global, rule: &str, place: &str) -> Result<Answer, Stop>
-    ensures answer { IfOk result (λ answer. Refused (refused_line rule.now place.now) ≡ answered answer) }
-    ensures memory { IfErr result (λ stop. stop ≡ Stop.NoMemory) }
-{
-    let mut text = String::new(alloc);
-    match push_refused(&mut text, rule, place) {
-        Ok(()) => Ok(Answer::Refused(text)),
         Err(NoMemory) => Err(Stop::NoMemory),
     }
 }

@@ -3,4 +3,6 @@
 pub enum Command<'a> {
     /// The built-in machine on the image of that name, for so many turns.
     Bare { image: &'a str, turns: u64 },
+    /// The canonical blob of the tree in the file of that name.
+    Dtb { file: &'a str },
 }

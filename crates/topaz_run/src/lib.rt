@@ -1,15 +1,17 @@
-//! The top call: what the words of the command line mean, from the files that they name to the text that
-//! is written.
+//! The top call: what the words of the command line mean, from the files that they name to the bytes that
+//! are written.
 //!
-//! It stands on `outside` (files and sinks) and `partition` (the machine). Its contract is the main
-//! theorem: the status and the bytes written are those of `outcome`, in `specs/Outcome.antt`, and each
-//! other answer has its cause.
+//! It stands on `outside` (files and sinks), `partition` (the machine), and `dt_read` and `dt_write`
+//! (blobs). Its contract is the main theorem: the status and the bytes written are those of `outcome`, in
+//! `specs/Outcome.antt`, and each other answer has its cause.
 #![tactic(auto)]
 
 mod bare;
 mod command;
 mod deliver;
+mod dtb;
 mod number;
+mod refuse;
 mod report;
 mod run;
 mod status;
@@ -21,5 +23,7 @@ mod world;
 pub use status::Status;
 pub use top_call::topaz;
 
+#[cfg(test)]
+mod blob_tests;
 #[cfg(test)]
 mod tests;

@@ -1,7 +1,7 @@
 /// How a call of `topaz` ended.
 #[derive(Clone, Copy, Debug, PartialEq, Eq)]
 pub enum Status {
-    /// Done: the whole text is written and flushed.
+    /// Done: all that was asked for is written and flushed.
     Ok,
     /// The words are of no form; nothing is written.
     Usage,
@@ -15,11 +15,11 @@ pub enum Status {
     NoMemory,
 }
 
-/// What a command answers: a text that ends with a refusal, or the text of what was done.
+/// What a command answers: a text that ends with a refusal, or the bytes of what was done.
 #[derive(Drop)]
 pub enum Answer {
-    Refused(String),
-    Done(String),
+    Refused(Vec<u8>),
+    Done(Vec<u8>),
 }
 
 /// Why a command answers nothing.

@@ -46,7 +46,10 @@ const UNLISTED: [u32; 9] = [
 ];
 
 // Lists of words that are of no form, with bars between the words.
-const OUT_OF_FORM: [&str; 21] = [
+const OUT_OF_FORM: [&str; 24] = [
+    "dtb",
+    "dtb|image|7",
+    "DTB|image",
     "bare",
     "bare|image",
     "bare|image|7|7",

@@ -1,4 +1,5 @@
 ghost use Rattle.std.specs.Prelude.{◌≡◌, ◌++◌, OnOk, codes, string_bytes};
+ghost use Rattle.topaz_run.specs.Outcome.{blob_rule};
 ghost use Rattle.topaz_run.specs.Text.{sent_line, running_line, console_line, refused_line, step_place};
 
 use outside::NoMemory;
@@ -47,6 +48,14 @@ pub fn push_refused(text: &mut String, rule: &str, place: &str) -> Result<(), No
     ensures { OnOk result (string_bytes text.new ≡ string_bytes text.old ++ refused_line rule.now place.now) }
 {
     writeln!(text, "refused {rule} at {place}")?;
+    Ok(())
+}
+
+// Appends that the blob in the file breaks its rule of that number.
+pub fn push_refused_blob(text: &mut String, rule: u8, file: &str) -> Result<(), NoMemory>
+    ensures { OnOk result (string_bytes text.new ≡ string_bytes text.old ++ refused_line (blob_rule rule) file.now) }
+{
+    writeln!(text, "refused B{rule} at {file}")?;
     Ok(())
 }
 

@@ -9,6 +9,7 @@ ghost use Rattle.topaz_run.specs.Meant.{meant};
 use crate::bare::bare;
 use crate::command::Command;
 use crate::deliver::deliver;
+use crate::dtb::dtb;
 use crate::status::{Answer, Status, Stop};
 use crate::words::command;
 use outside::{Failed, Files, Sink};
@@ -49,8 +50,8 @@ pub fn topaz<F: Files, S: Sink>(
         return Status::Usage;
     };
     match answer(alloc, command, files) {
-        Ok(Answer::Done(text)) => status_of(deliver(out, text.as_bytes()), Status::Ok),
-        Ok(Answer::Refused(text)) => status_of(deliver(out, text.as_bytes()), Status::Refused),
+        Ok(Answer::Done(text)) => status_of(deliver(out, text.as_slice()), Status::Ok),
+        Ok(Answer::Refused(text)) => status_of(deliver(out, text.as_slice()), Status::Refused),
         Err(Stop::ReadFault) => Status::ReadFault,
         Err(Stop::NoMemory) => Status::NoMemory,
     }
@@ -68,6 +69,7 @@ fn answer<F: Files>(alloc: Global, command: Command<'_>, files: &mut F) -> Resul
 {
     match command {
         Command::Bare { image, turns } => bare(alloc, files, image, turns),
+        Command::Dtb { file } => dtb(alloc, files, file),
     }
 }
 

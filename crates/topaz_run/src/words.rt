@@ -22,6 +22,9 @@ pub fn command<'a>(words: &'a [String]) -> Option<Command<'a>>
                 turns,
             })
         }
+        [verb, file] if verb.as_str() == "dtb" => Some(Command::Dtb {
+            file: file.as_str(),
+        }),
         _ => None,
     }
 }

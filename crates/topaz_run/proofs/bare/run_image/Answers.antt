@@ -3,7 +3,8 @@ use Rattle.std.proofs.lemmas.Grind.{common_steps}
 use Rattle.partition.specs.Machine.{memory_size}
 use Rattle.topaz_run.specs.Report.{Run}
 use Rattle.topaz_run.specs.Outcome.{reported}
-use Rattle.topaz_run.proofs.Images.{too_large, fitting, same_refusal}
+use Rattle.topaz_run.proofs.Images.{too_large, fitting}
+use Rattle.topaz_run.proofs.LongFiles.{same_answer}
 use Rattle.topaz_run.proofs.bare.run_image.Goals as goal
 use Rattle.topaz_run.proofs.bare.run_image.Goals.{then-report, else-report}
 
@@ -11,7 +12,7 @@ pub returns-then-image-gt-MEMORY_SIZE-clause-answer :
     goal.returns-then-image-gt-MEMORY_SIZE-clause-answer
 returns-then-image-gt-MEMORY_SIZE-clause-answer c =
     let large : memory_size < length c.args.image.now = omega arith in
-    same_refusal _ _ c.refuse.result (too_large c.args.name.now c.args.turns c.args.image.now c.requires.short large) c.refuse.ensures.answer
+    same_answer _ _ c.refuse.result (too_large c.args.name.now c.args.turns c.args.image.now c.requires.short large) c.refuse.ensures.answer
 
 pub returns-after-report-clause-answer : goal.returns-after-report-clause-answer
 returns-after-report-clause-answer c =

@@ -1,0 +1,10 @@
+pub mod Below
+pub mod Walks
+pub mod Rules
+pub mod Bridge
+pub mod Spelled
+pub mod Found
+pub mod Blobs
+pub mod Rows
+pub mod Existence
+pub mod Rewritten

@@ -1,0 +1,14 @@
+pub mod Value
+pub mod Name
+pub mod Token
+pub mod Node
+pub mod Rule
+pub mod Fit
+pub mod Header
+pub mod Reserve
+pub mod Spelling
+pub mod Blob
+pub mod Fault
+pub mod Walk
+pub mod Typed
+pub mod Canonical

@@ -1,0 +1,68 @@
+//! Which names nodes and properties may have.
+
+ghost use Rattle.std.specs.Prelude.{◌≡◌, ◌&&◌, ◌||◌, ◌==◌, nat_le, not, length};
+ghost use Rattle.std.specs.List.{list_all};
+ghost use Rattle.dt_model.specs.Name as spec;
+
+fn is_common_char(byte: u8) -> bool
+    ensures { result ≡ spec.is_common_char byte }
+{
+    byte.is_ascii_alphanumeric() || matches!(byte, b',' | b'.' | b'_' | b'+' | b'-')
+}
+
+fn is_node_char(byte: u8) -> bool
+    ensures { result ≡ spec.is_node_char byte }
+{
+    is_common_char(byte) || byte == b'@'
+}
+
+fn is_property_char(byte: u8) -> bool
+    ensures { result ≡ spec.is_property_char byte }
+{
+    is_common_char(byte) || byte == b'?' || byte == b'#'
+}
+
+fn are_node_chars(bytes: &[u8]) -> bool
+    ensures { result ≡ list_all spec.is_node_char bytes.now }
+{
+    bytes.iter().all(|byte| is_node_char(*byte))
+}
+
+fn are_property_chars(bytes: &[u8]) -> bool
+    ensures { result ≡ list_all spec.is_property_char bytes.now }
+{
+    bytes.iter().all(|byte| is_property_char(*byte))
+}
+
+fn begins_with_comma(bytes: &[u8]) -> bool
+    ensures { result ≡ spec.begins_with_comma bytes.now }
+{
+    match bytes {
+        [first, ..] => *first == b',',
+        [] => false,
+    }
+}
+
+fn has_name_length(bytes: &[u8]) -> bool
+    ensures { result ≡ (nat_le 1 (length bytes.now) && nat_le (length bytes.now) 255) }
+{
+    1 <= bytes.len() && bytes.len() <= 255
+}
+
+/// Whether a node other than the root may have the name: 1 to 255 digits, letters and `, . _ + - @`, with no comma at the
+/// front (ePAPR 1.1, 2.2.1.1).
+#[tactic(auto, unfolding(crate::specs::Name::is_name_of))]
+pub fn is_node_name(name: &[u8]) -> bool
+    ensures { result ≡ spec.is_node_name name.now }
+{
+    has_name_length(name) && are_node_chars(name) && !begins_with_comma(name)
+}
+
+/// Whether a property may have the name: 1 to 255 digits, letters and `, . _ + - ? #`, with no comma at the front
+/// (ePAPR 1.1, 2.2.4.1).
+#[tactic(auto, unfolding(crate::specs::Name::is_name_of))]
+pub fn is_property_name(name: &[u8]) -> bool
+    ensures { result ≡ spec.is_property_name name.now }
+{
+    has_name_length(name) && are_property_chars(name) && !begins_with_comma(name)
+}
