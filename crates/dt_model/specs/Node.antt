@@ -1,4 +1,4 @@
--- What a tree has, in document order (ePAPR 1.1, 2.2.1 "Device tree structure and conventions").
+-- What a tree has, in document order (ePAPR 1.1, 2.2 "Device Tree Structure and Conventions").
 use Rattle.std.specs.Prelude.{ℕ, Bool, false, ◌==◌, List, [], ◌∷◌, ◌++◌, map, find, Option, option_and_then, codes}
 use Rattle.std.specs.Option.{option_map, option_map_or}
 use Rattle.std.specs.List.{flat_map}

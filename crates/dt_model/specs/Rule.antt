@@ -85,7 +85,7 @@ broken_by_end before = if is_inside before then None else Some 11
 unfoldable pub broken_by_finish : List Token → Option ℕ
 broken_by_finish before = if not (is_begun before) then Some 11 else if is_inside before then Some 12 else None
 
--- the least rule that the token breaks
+-- the least of the rules B9 to B14 that the token breaks
 abbrev pub broken : List Token → Token → Option ℕ
 broken before (BeginNode name) = broken_by_begin before name
 broken before (Prop name value) = broken_by_property before name

@@ -1,6 +1,6 @@
 //! Which names nodes and properties may have.
 
-ghost use Rattle.std.specs.Prelude.{◌≡◌, ◌&&◌, ◌||◌, ◌==◌, nat_le, not, length};
+ghost use Rattle.std.specs.Prelude.{◌≡◌, ◌&&◌, nat_le, length};
 ghost use Rattle.std.specs.List.{list_all};
 ghost use Rattle.dt_model.specs.Name as spec;
 

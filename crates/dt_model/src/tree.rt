@@ -9,7 +9,7 @@ pub struct Property {
     pub value: Bytes,
 }
 
-/// A node with its properties and its children, each in document order (ePAPR 1.1, 2.2.1). The root has no name.
+/// A node with its properties and its children, each in document order (ePAPR 1.1, 2.2). The root has no name.
 #[derive(Debug, Drop)]
 pub struct Node {
     pub name: Bytes,

@@ -3,7 +3,7 @@
 ghost use Rattle.std.specs.Prelude.{◌≡◌, [], ◌∷◌, None, List, MatchResult, false};
 ghost use Rattle.dt_model.specs.Token.{Token as Spelled, BeginNode, Prop, EndNode, is_end, onto};
 ghost use Rattle.dt_model.specs.Node.{node_tokens};
-ghost use Rattle.dt_model.specs.Rule.{broken, broken_by_begin, broken_by_property, broken_by_end, broken_by_finish, depth};
+ghost use Rattle.dt_model.specs.Rule.{broken, broken_by_property, broken_by_finish, depth};
 ghost use Rattle.dt_read.specs.Given.{FailsBy, TakesToken, token_view};
 ghost use Rattle.dt_read.specs.Built.{IsFresh, IsWithin, IsClosed, inside};
 

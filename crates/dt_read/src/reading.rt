@@ -1,14 +1,12 @@
 //! Reading a whole blob.
 
-ghost use Rattle.std.specs.Prelude.{◌≡◌, ◌≤◌, ◌+◌, ◌++◌, ◌∷◌, [], None, MatchResult, IfOk, length, take, drop};
+ghost use Rattle.std.specs.Prelude.{◌≡◌, ◌≤◌, ◌+◌, None, MatchResult, IfOk, length, drop};
 ghost use Rattle.dt_model.specs.declared.Tree.{Tree as SeenTree};
 ghost use Rattle.dt_model.specs.Header.{reserve_part, structure_part, strings_part};
 ghost use Rattle.dt_model.specs.Header as spec;
 ghost use Rattle.dt_model.specs.Blob.{IsBlobOf, IsSameTree};
-ghost use Rattle.dt_read.specs.HeaderView.{header_view, AreWithin};
-ghost use Rattle.dt_model.specs.Token.{Finish, without_nops};
-ghost use Rattle.dt_model.specs.Node.{node_tokens};
-ghost use Rattle.dt_model.specs.Fault.{fault_in, tokens_in, first_fault};
+ghost use Rattle.dt_read.specs.HeaderView.{header_view};
+ghost use Rattle.dt_model.specs.Fault.{first_fault};
 ghost use Rattle.dt_read.specs.Given.{FailsBy, ReadsRoot};
 
 use crate::builder::Builder;

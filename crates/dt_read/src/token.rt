@@ -1,7 +1,6 @@
 //! Reading one token.
 
-ghost use Rattle.std.specs.Prelude.{◌≡◌, ◌<◌, ◌==◌, ◌%◌, ◌-◌, ℕ, length, IfOk, position};
-ghost use Rattle.std.specs.List.{list_all};
+ghost use Rattle.std.specs.Prelude.{◌≡◌, ◌==◌, position};
 ghost use Rattle.dt_model.specs.Spelling as spelling;
 ghost use Rattle.dt_model.specs.Token.{is_end};
 ghost use Rattle.dt_model.specs.Fault as spec;

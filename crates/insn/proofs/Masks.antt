@@ -14,8 +14,29 @@ and_primary w h =
     let kept : bit_and w 0xFC000000 ≡ w / 2 ^ 26 % 64 * 2 ^ 26 = and_high w 6 26 in
     omega arith
 
-pub and_unrecorded : (w : ℕ) → w < 2 ^ 32 → bit_and w 0xFC0007FF ≡ w / 2 ^ 26 * 2 ^ 26 + w % 2 ^ 11
-and_unrecorded w h =
+pub and_extended : (w : ℕ) → w < 2 ^ 32 → bit_and w 0xFC0007FE ≡ w / 2 ^ 26 * 2 ^ 26 + w / 2 % 1024 * 2
+and_extended w h =
+    let parts : bit_and w 0xFC0007FE ≡ bit_and (w / 2 ^ 11) 0x1F8000 * 2 ^ 11 + bit_and (w % 2 ^ 11) 0x7FE = and_parts 11 w 0x1F8000 0x7FE (omega arith) in
+    let high : bit_and (w / 2 ^ 11) 0x1F8000 ≡ w / 2 ^ 11 / 2 ^ 15 % 64 * 2 ^ 15 = and_high (w / 2 ^ 11) 6 15 in
+    let low : bit_and (w % 2 ^ 11) 0x7FE ≡ w % 2 ^ 11 / 2 % 1024 * 2 = and_high (w % 2 ^ 11) 10 1 in
+    omega arith
+
+pub and_arithmetic : (w : ℕ) → w < 2 ^ 32 → bit_and w 0xFC0003FE ≡ w / 2 ^ 26 * 2 ^ 26 + w / 2 % 512 * 2
+and_arithmetic w h =
+    let parts : bit_and w 0xFC0003FE ≡ bit_and (w / 2 ^ 10) 0x3F0000 * 2 ^ 10 + bit_and (w % 2 ^ 10) 0x3FE = and_parts 10 w 0x3F0000 0x3FE (omega arith) in
+    let high : bit_and (w / 2 ^ 10) 0x3F0000 ≡ w / 2 ^ 10 / 2 ^ 16 % 64 * 2 ^ 16 = and_high (w / 2 ^ 10) 6 16 in
+    let low : bit_and (w % 2 ^ 10) 0x3FE ≡ w % 2 ^ 10 / 2 % 512 * 2 = and_high (w % 2 ^ 10) 9 1 in
+    omega arith
+
+pub and_select : (w : ℕ) → w < 2 ^ 32 → bit_and w 0xFC00003E ≡ w / 2 ^ 26 * 2 ^ 26 + w / 2 % 32 * 2
+and_select w h =
+    let parts : bit_and w 0xFC00003E ≡ bit_and (w / 2 ^ 6) 0x3F00000 * 2 ^ 6 + bit_and (w % 2 ^ 6) 0x3E = and_parts 6 w 0x3F00000 0x3E (omega arith) in
+    let high : bit_and (w / 2 ^ 6) 0x3F00000 ≡ w / 2 ^ 6 / 2 ^ 20 % 64 * 2 ^ 20 = and_high (w / 2 ^ 6) 6 20 in
+    let low : bit_and (w % 2 ^ 6) 0x3E ≡ w % 2 ^ 6 / 2 % 32 * 2 = and_high (w % 2 ^ 6) 5 1 in
+    omega arith
+
+pub and_recorded : (w : ℕ) → w < 2 ^ 32 → bit_and w 0xFC0007FF ≡ w / 2 ^ 26 * 2 ^ 26 + w % 2 ^ 11
+and_recorded w h =
     let parts : bit_and w 0xFC0007FF ≡ bit_and (w / 2 ^ 11) 0x1F8000 * 2 ^ 11 + bit_and (w % 2 ^ 11) 0x7FF = and_parts 11 w 0x1F8000 0x7FF (omega arith) in
     let high : bit_and (w / 2 ^ 11) 0x1F8000 ≡ w / 2 ^ 11 / 2 ^ 15 % 64 * 2 ^ 15 = and_high (w / 2 ^ 11) 6 15 in
     let low : bit_and (w % 2 ^ 11) 0x7FF ≡ w % 2 ^ 11 % 2 ^ 11 = and_mask (w % 2 ^ 11) 11 in

@@ -2,10 +2,10 @@
 use Rattle.std.proofs.Common.{◌≡◌, ℕ, zero, suc, List, [], ◌∷◌, refl}
 use Rattle.std.specs.Int.{w32, to_be_bytes}
 use Rattle.std.specs.List.{flat_map}
-use Rattle.insn.specs.Table.{table, op_of}
+use Rattle.insn.specs.Table.{table, primary_map, map_19, map_31, op_of}
 use Rattle.partition.specs.declared.event.Event.TheVariants.{Room}
 use Rattle.partition.specs.Registers.{boot_registers}
-use Rattle.partition.specs.Effects.{addi, addis, ori, oris, xori, xoris, add, or, branch, effect}
+use Rattle.partition.specs.Effects.{addi, addis, ori, oris, xori, xoris, add, or, branch, effect, is_built}
 use Rattle.partition.specs.Hypercall.{services, call_of, answered, payload}
 use Rattle.partition.specs.Machine.{Machine, loaded, boot}
 use Rattle.partition.specs.Step.{Act, Nothing, Sends, Unbuilt, refused, delivered, send, served, performed, word_at, step}
@@ -45,18 +45,37 @@ sent_in zero machine = []
 sent_in (suc n) machine = with_send (step machine).act (step machine).after.steps (sent_in n (taken (step machine).act (step machine).after))
 
 pub sent-hello : sent_in 7 (boot hello) ≡ (6, 0x48 ∷ 0x69 ∷ []) ∷ []
-unfolding sent_in taken step word_at performed served send delivered refused apply boot loaded boot_registers effect addi addis ori oris xori xoris add or branch answered payload call_of services op_of table
+unfolding sent_in taken step word_at performed served send delivered refused apply boot loaded boot_registers effect addi addis ori oris xori xoris add or branch answered payload call_of services op_of table primary_map map_19 map_31 is_built
 sent-hello = refl
 
 pub sent-seventeen : sent_in 9 (boot seventeen) ≡ (9, 0 ∷ 0 ∷ 0 ∷ 8 ∷ []) ∷ []
-unfolding sent_in taken step word_at performed served send delivered refused apply boot loaded boot_registers effect addi addis ori oris xori xoris add or branch answered payload call_of services op_of table
+unfolding sent_in taken step word_at performed served send delivered refused apply boot loaded boot_registers effect addi addis ori oris xori xoris add or branch answered payload call_of services op_of table primary_map map_19 map_31 is_built
 sent-seventeen = refl
 
 pub sent-unlisted : sent_in 9 (boot unlisted) ≡ (8, 0 ∷ 0 ∷ 0 ∷ 12 ∷ []) ∷ []
-unfolding sent_in taken step word_at performed served send delivered refused apply boot loaded boot_registers effect addi addis ori oris xori xoris add or branch answered payload call_of services op_of table
+unfolding sent_in taken step word_at performed served send delivered refused apply boot loaded boot_registers effect addi addis ori oris xori xoris add or branch answered payload call_of services op_of table primary_map map_19 map_31 is_built
 sent-unlisted = refl
 
--- the word 0 is no instruction
-pub unbuilt-zero : step (boot (image (0 ∷ []))) ≡ record { after = boot (image (0 ∷ [])); act = Unbuilt }
-unfolding sent_in taken step word_at performed served send delivered refused apply boot loaded boot_registers effect addi addis ori oris xori xoris add or branch answered payload call_of services op_of table
+-- the word 0 is no instruction; add., addo, mr. and sc are instructions that the machine doesn't do
+abbrev stays_unbuilt : ℕ → Type 0
+stays_unbuilt word = step (boot (image (word ∷ []))) ≡ record { after = boot (image (word ∷ [])); act = Unbuilt }
+
+pub unbuilt-zero : stays_unbuilt 0
+unfolding sent_in taken step word_at performed served send delivered refused apply boot loaded boot_registers effect addi addis ori oris xori xoris add or branch answered payload call_of services op_of table primary_map map_19 map_31 is_built
 unbuilt-zero = refl
+
+pub unbuilt-recorded_add : stays_unbuilt 0x7DEF2A15
+unfolding sent_in taken step word_at performed served send delivered refused apply boot loaded boot_registers effect addi addis ori oris xori xoris add or branch answered payload call_of services op_of table primary_map map_19 map_31 is_built
+unbuilt-recorded_add = refl
+
+pub unbuilt-overflowing_add : stays_unbuilt 0x7DEF2E14
+unfolding sent_in taken step word_at performed served send delivered refused apply boot loaded boot_registers effect addi addis ori oris xori xoris add or branch answered payload call_of services op_of table primary_map map_19 map_31 is_built
+unbuilt-overflowing_add = refl
+
+pub unbuilt-recorded_or : stays_unbuilt 0x7DE57B79
+unfolding sent_in taken step word_at performed served send delivered refused apply boot loaded boot_registers effect addi addis ori oris xori xoris add or branch answered payload call_of services op_of table primary_map map_19 map_31 is_built
+unbuilt-recorded_or = refl
+
+pub unbuilt-system_call : stays_unbuilt 0x44000002
+unfolding sent_in taken step word_at performed served send delivered refused apply boot loaded boot_registers effect addi addis ori oris xori xoris add or branch answered payload call_of services op_of table primary_map map_19 map_31 is_built
+unbuilt-system_call = refl

@@ -1,10 +1,10 @@
 -- What each instruction does to the registers (Power ISA 2.06, Book I: section 2.4 for branches, 3.3.8 for arithmetic, 3.3.12
 -- for logic). Registers hold 32 bits, so results are modulo 2 ^ 32.
-use Rattle.std.specs.Prelude.{ℕ, ◌+◌, ◌*◌, ◌%◌, ◌^◌, ◌==◌, ℤ, pos, ◌+ℤ◌, ◌*ℤ◌, unsigned_abs, bit_or, bit_xor, if◌then◌else◌}
+use Rattle.std.specs.Prelude.{ℕ, ◌+◌, ◌*◌, ◌%◌, ◌^◌, ◌==◌, Bool, true, false, ◌&&◌, ℤ, pos, ◌+ℤ◌, ◌*ℤ◌, unsigned_abs, bit_or, bit_xor, if◌then◌else◌}
 use Rattle.std.specs.Int.{int_rem_euclid}
 use Rattle.insn.specs.declared.instruction.Op.{Op}
-use Rattle.insn.specs.declared.instruction.Op.TheVariants.{Addi, Addis, Sc, B, Ori, Oris, Xori, Xoris, Add, Or, Illegal}
-use Rattle.insn.specs.Fields.{rt_field, ra_field, rb_field, immediate, signed_immediate, branch_displacement, absolute_bit, link_bit}
+use Rattle.insn.specs.declared.instruction.Op.TheVariants.{Addi, Addis, B, Ori, Oris, Xori, Xoris, Add, Or}
+use Rattle.insn.specs.Fields.{rt_field, ra_field, rb_field, immediate, signed_immediate, branch_displacement, absolute_bit, link_bit, overflow_bit, record_bit}
 use Rattle.partition.specs.Registers.{Registers, gpr_of, with_gpr, advanced}
 
 -- a whole number modulo 2 ^ 32
@@ -51,7 +51,7 @@ branch_target word registers = wrapped (pos (if absolute_bit word == 1 then 0 el
 unfoldable pub branch : ℕ → Registers → Registers
 branch word registers = record registers { pc = branch_target word registers; lr = if link_bit word == 1 then (registers.pc + 4) % 2 ^ 32 else registers.lr }
 
--- Each instruction that is a matter of the registers alone. The other words leave them to whoever knows what is asked.
+-- Each instruction that is a matter of the registers alone. The other words leave them as they are.
 unfoldable pub effect : Op → ℕ → Registers → Registers
 effect Addi word registers = addi word registers
 effect Addis word registers = addis word registers
@@ -62,5 +62,17 @@ effect Xori word registers = xori word registers
 effect Xoris word registers = xoris word registers
 effect Add word registers = add word registers
 effect Or word registers = or word registers
-effect Sc word registers = registers
-effect Illegal word registers = registers
+effect _ word registers = registers
+
+-- The words that the machine does by an effect: add with OE and Rc clear, or with Rc clear, and the seven that have neither bit.
+unfoldable pub is_built : Op → ℕ → Bool
+is_built Addi word = true
+is_built Addis word = true
+is_built B word = true
+is_built Ori word = true
+is_built Oris word = true
+is_built Xori word = true
+is_built Xoris word = true
+is_built Add word = (overflow_bit word == 0) && (record_bit word == 0)
+is_built Or word = record_bit word == 0
+is_built _ word = false

@@ -1,6 +1,6 @@
 -- What a hypercall that was not done leaves as it was.
 use Rattle.std.specs.Prelude.{◌≡◌, ◌≢◌, ℕ, ◌<◌, length, slice_index_or, []}
-use Rattle.insn.specs.declared.instruction.Op.TheVariants.{Sc}
+use Rattle.insn.specs.declared.instruction.Op.TheVariants.{Hypercall}
 use Rattle.insn.specs.Table.{op_of}
 use Rattle.partition.specs.Registers.{gpr_of}
 use Rattle.partition.specs.Machine.{Machine, memory_size}
@@ -9,7 +9,7 @@ use Rattle.partition.specs.Step.{word_at, step}
 -- the next instruction is a hypercall
 pub record CallsNext (machine : Machine) : Type 0 where
   pub inside : machine.registers.pc < memory_size
-  pub call : op_of (word_at (slice_index_or machine.memory 0 []) machine.registers.pc) ≡ Sc
+  pub call : op_of (word_at (slice_index_or machine.memory 0 []) machine.registers.pc) ≡ Hypercall
 
 -- the memory, the link register and each general register but r3 and r4 stay
 pub record KeepsMost (old new : Machine) : Type 0 where

@@ -9,7 +9,7 @@ use Rattle.partition.specs.declared.call.Call.TheVariants as call
 use Rattle.partition.specs.declared.call.Status.{Status}
 use Rattle.partition.specs.declared.call.Status.TheVariants.{Success, TryAgain, InvalidArgument, Unimplemented}
 use Rattle.partition.specs.Registers.{Registers, gpr_of, with_gpr}
-use Rattle.partition.specs.Effects.{effect}
+use Rattle.partition.specs.Effects.{effect, is_built}
 use Rattle.partition.specs.Hypercall.{call_of, answered, payload}
 use Rattle.partition.specs.Machine.{Machine, memory_size, is_channel, port_of, room, ports_with}
 
@@ -70,11 +70,11 @@ served call.ByteChannelSend machine = send machine
 served call.Unlisted machine = refused Unimplemented machine
 served _ machine = not_built machine
 
--- what the instruction word does
+-- What the instruction word does. A word that is neither the hypercall nor built is not done.
 unfoldable pub performed : Op → ℕ → Machine → Stepped
-performed op.Illegal word machine = not_built machine
-performed op.Sc word machine = served (call_of (gpr_of machine.registers 11)) machine
-performed operation word machine = quiet (effect operation word machine.registers) machine
+performed op.Hypercall word machine = served (call_of (gpr_of machine.registers 11)) machine
+performed operation word machine =
+    if is_built operation word then quiet (effect operation word machine.registers) machine else not_built machine
 
 -- the instruction word at an address of the first region
 unfoldable pub word_at : List ℕ → ℕ → ℕ

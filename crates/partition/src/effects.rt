@@ -2,7 +2,7 @@
 
 ghost use Rattle.std.specs.Prelude.{◌≡◌, ℕ, ◌<◌, ◌*◌, ◌%◌, ◌^◌};
 ghost use Rattle.insn.specs.Fields.{immediate};
-ghost use Rattle.partition.specs.Effects.{base, result_in, addi, addis, ori, oris, xori, xoris, add, or, branch, branch_target, effect};
+ghost use Rattle.partition.specs.Effects.{base, result_in, addi, addis, ori, oris, xori, xoris, add, or, branch, branch_target, effect, is_built};
 
 use crate::registers::RegisterFile;
 use insn::{Insn, Op};
@@ -22,7 +22,20 @@ pub fn execute(registers: &mut RegisterFile, insn: Insn)
         Op::Xoris => xor_immediate_shifted(registers, insn),
         Op::Add => add_registers(registers, insn),
         Op::Or => or_of_registers(registers, insn),
-        Op::Sc | Op::Illegal => {}
+        _ => {}
+    }
+}
+
+/// Whether the machine does the word by its effect alone.
+#[tactic(auto, unfolding(crate::specs::Effects::is_built))]
+pub fn is_built(insn: Insn) -> bool
+    ensures { result ≡ is_built insn.op insn.word }
+{
+    match insn.op {
+        Op::Addi | Op::Addis | Op::B | Op::Ori | Op::Oris | Op::Xori | Op::Xoris => true,
+        Op::Add => !insn.tells_overflow() && !insn.records(),
+        Op::Or => !insn.records(),
+        _ => false,
     }
 }
 

@@ -8,7 +8,7 @@ ghost use Rattle.partition.specs.Step.{Stepped, Nothing, refused, delivered, sen
 ghost use Rattle.partition.specs.Event.{apply, act_of, HasBytes, IsCounted};
 
 use crate::call::{Call, Status};
-use crate::effects::execute;
+use crate::effects::{execute, is_built};
 use crate::event::{Event, LoneStep};
 use crate::hypercall::{answer, call_of_token, payload_of};
 use crate::registers::RegisterFile;
@@ -83,8 +83,9 @@ impl Lone {
     /// Does one step: one instruction, or one hypercall.
     ///
     /// `NotBuilt` comes where the program counter is at or past the end of the memory, where the word is
-    /// none of those that `insn` knows, and where the word is the hypercall and its token is that of a
-    /// service that the machine doesn't have yet.
+    /// neither the hypercall nor one of addi, addis, b, ori, oris, xori, xoris, add with OE and Rc clear, and
+    /// or with Rc clear; and where it is the hypercall and its token is that of a service that the machine
+    /// doesn't have yet.
     #[tactic(auto, unfolding(crate::specs::Step::step, crate::specs::Step::performed))]
     pub fn step(&mut self) -> LoneStep
         requires { self.old.steps < 1000000000000 }
@@ -98,13 +99,13 @@ impl Lone {
         }
         let insn = decode(word_in(&self.memory, address));
         match insn.op {
-            Op::Illegal => LoneStep::NotBuilt,
-            Op::Sc => self.serve(),
-            _ => {
+            Op::Hypercall => self.serve(),
+            _ if is_built(insn) => {
                 execute(&mut self.registers, insn);
                 self.steps += 1;
                 LoneStep::Quiet
             }
+            _ => LoneStep::NotBuilt,
         }
     }
 

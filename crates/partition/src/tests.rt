@@ -73,7 +73,7 @@ const TEN: [u32; 16] = [
     0x4400_0022, // sc 1
 ];
 
-const RUNS: [Run; 9] = [
+const RUNS: [Run; 13] = [
     Run {
         image: &HELLO,
         tries: 7,
@@ -112,9 +112,38 @@ const RUNS: [Run; 9] = [
         ],
         steps: 14,
     },
-    // An illegal word, memory's end, and poll, which is listed: each stays where it is.
+    // An illegal word, add., addo, mr., sc of level 0, memory's end, and poll, which is listed: each stays
+    // where it is.
     Run {
         image: &[0],
+        tries: 3,
+        sends_at: 0,
+        sent: b"",
+        steps: 0,
+    },
+    Run {
+        image: &[0x7DEF_2A15],
+        tries: 3,
+        sends_at: 0,
+        sent: b"",
+        steps: 0,
+    },
+    Run {
+        image: &[0x7DEF_2E14],
+        tries: 3,
+        sends_at: 0,
+        sent: b"",
+        steps: 0,
+    },
+    Run {
+        image: &[0x7DE5_7B79],
+        tries: 3,
+        sends_at: 0,
+        sent: b"",
+        steps: 0,
+    },
+    Run {
+        image: &[0x4400_0002],
         tries: 3,
         sends_at: 0,
         sent: b"",

@@ -1,0 +1,19 @@
+//! Real memory: extents of bytes, read and written in place.
+//!
+//! The layer stands on `outside` alone, whose `NoMemory` it gives. Only `Ground::new` takes memory.
+//! `specs/Extents.antt` says what an extent, a range in it and a write are; no contract says more of how
+//! the bytes are kept.
+#![tactic(auto)]
+
+mod extent;
+mod law;
+mod memory;
+
+pub use law::{
+    lengths_stay, one_byte_is_its_number, other_bytes_stay, other_extents_stay, put_is_read_back,
+    store_is_loaded_back,
+};
+pub use memory::Ground;
+
+#[cfg(test)]
+mod tests;

@@ -1,0 +1,28 @@
+//! What each instruction does to the registers, and the access that it makes.
+//!
+//! It stands on `insn` for the table and the fields of a word, on `guest_regs` for the registers, and on
+//! `arrayvec` for the bytes of a store. It meets `specs/Exec.antt`, where each instruction has a row, over
+//! the words of `specs/Numbers.antt` (whole numbers as 32 bits), `specs/Fields.antt` (the condition
+//! register and XER) and `specs/Rows.antt` (rows that several instructions share). Loads and stores are in
+//! `specs/Transfers.antt`: `exec` answers their access, and `finish_load` and `stored` complete it.
+#![tactic(auto)]
+
+mod access;
+mod branches;
+mod effect;
+mod execution;
+mod fields;
+mod moves;
+mod numbers;
+mod rows;
+mod system;
+mod transfer;
+
+pub use access::{finish_load, stored};
+pub use effect::{Access, Effect, Form};
+pub use execution::exec;
+
+#[cfg(test)]
+mod tests;
+#[cfg(test)]
+mod transfer_tests;
