@@ -1,0 +1,56 @@
+-- The entry of interrupts (Power ISA 2.06, Book III-E, chapter 7).
+use Rattle.std.specs.Prelude.{ℕ, ◌+◌, ◌*◌, ◌/◌, ◌%◌, ◌^◌, Bool, true, slice_index, bit_and}
+use Rattle.guest_regs.specs.Registers.{Registers, machine_state}
+use Rattle.trap_emulate.specs.declared.cause.Cause.{Cause}
+use Rattle.trap_emulate.specs.declared.cause.Cause.TheVariants.{MachineCheck, StorageData, StorageInsn, External, Align, Program, NoFloat, Syscall, Decrementer}
+use Rattle.trap_emulate.specs.State.{critical_enable, machine_check_enable, is_set}
+
+-- The address of a kind's handler: 16 bits of IVPR, 12 bits of the kind's IVOR, and four zeros.
+abbrev pub handler : ℕ → Registers → ℕ
+handler kind registers = registers.ivpr / 2 ^ 16 * 2 ^ 16 + slice_index registers.ivor kind / 2 ^ 4 % 2 ^ 12 * 2 ^ 4
+
+-- An interrupt saves where to go back to and the machine state in SRR0 and SRR1. Of the state CE and ME stay, and GS, which is always 1.
+unfoldable pub interrupted : ℕ → ℕ → Registers → Registers
+interrupted kind back registers = record registers {
+  srr0 = back;
+  srr1 = registers.msr;
+  msr = machine_state (bit_and registers.msr (critical_enable + machine_check_enable));
+  pc = handler kind registers;
+}
+
+-- A machine check saves them in MCSRR0 and MCSRR1, and of the state nothing stays but GS.
+unfoldable pub checked : Registers → Registers
+checked registers = record registers {
+  mcsrr0 = registers.pc;
+  mcsrr1 = registers.msr;
+  msr = machine_state 0;
+  pc = handler 1 registers;
+}
+
+-- DEAR tells the address of the access, and ESR what was wrong.
+abbrev pub about : ℕ → ℕ → Registers → Registers
+about address syndrome registers = record registers { dear = address; esr = syndrome }
+
+abbrev pub explained : ℕ → Registers → Registers
+explained syndrome registers = record registers { esr = syndrome }
+
+-- the next instruction, where a system call goes back to
+abbrev pub next_instruction : Registers → ℕ
+next_instruction registers = (registers.pc + 4) % 2 ^ 32
+
+-- Each cause has its kind's number. All go back to the instruction that was to be done, but a system call to the one after it.
+unfoldable pub delivered : Cause → Registers → Registers
+delivered MachineCheck registers = checked registers
+delivered (StorageData address syndrome) registers = interrupted 2 registers.pc (about address syndrome registers)
+delivered (StorageInsn syndrome) registers = interrupted 3 registers.pc (explained syndrome registers)
+delivered External registers = interrupted 4 registers.pc registers
+delivered (Align address syndrome) registers = interrupted 5 registers.pc (about address syndrome registers)
+delivered (Program syndrome) registers = interrupted 6 registers.pc (explained syndrome registers)
+delivered NoFloat registers = interrupted 7 registers.pc registers
+delivered Syscall registers = interrupted 8 (next_instruction registers) registers
+delivered Decrementer registers = interrupted 10 registers.pc registers
+
+-- A machine check is entered only where ME is set, and every other cause always.
+abbrev pub may_enter : Cause → Registers → Bool
+may_enter MachineCheck registers = is_set machine_check_enable registers.msr
+may_enter _ registers = true

@@ -1,0 +1,68 @@
+-- What the definitions of this crate mean over whole runs: clocks keep time, and a return undoes an entry.
+use Rattle.std.specs.Prelude.{◌≡◌, ℕ, zero, suc, ◌+◌, ◌-◌, ◌%◌, ◌^◌, ◌<◌, bit_or, if◌then◌else◌}
+use Rattle.insn.specs.declared.instruction.Op.{Op}
+use Rattle.insn.specs.declared.instruction.Op.TheVariants as op
+use Rattle.guest_regs.specs.Registers.{Registers, machine_state}
+use Rattle.trap_emulate.specs.declared.cause.Cause.{Cause}
+use Rattle.trap_emulate.specs.declared.cause.Cause.TheVariants.{MachineCheck, Syscall}
+use Rattle.trap_emulate.specs.State.{is_set}
+use Rattle.trap_emulate.specs.Clock.{ticked, auto_reload, decrementer_status}
+use Rattle.trap_emulate.specs.Entry.{delivered, next_instruction}
+use Rattle.trap_emulate.specs.Privileged.{emulated}
+
+-- the registers when so many steps have passed that changed nothing else
+abbrev pub after_steps : ℕ → Registers → Registers
+after_steps zero registers = registers
+after_steps (suc n) registers = ticked (after_steps n registers)
+
+-- The time base counts the steps.
+abbrev pub TimeCountsSteps : Type 0
+TimeCountsSteps =
+    (n : ℕ) (registers : Registers) → registers.time < 2 ^ 64 →
+    (after_steps n registers).time ≡ (registers.time + n) % 2 ^ 64
+
+-- A decrementer tells of nothing before its last step,
+abbrev pub FallsInSilence : Type 0
+FallsInSilence =
+    (n : ℕ) (registers : Registers) → n < registers.dec →
+    ((after_steps n registers).dec ≡ registers.dec - n) × ((after_steps n registers).tsr ≡ registers.tsr)
+
+-- and at that step it expires, and is reloaded where ARE asks for it.
+abbrev pub ExpiresOnTime : Type 0
+ExpiresOnTime =
+    (n : ℕ) (registers : Registers) → registers.dec ≡ suc n →
+    ((after_steps (suc n) registers).dec ≡ (if is_set auto_reload registers.tcr then registers.decar else 0)) × ((after_steps (suc n) registers).tsr ≡ bit_or registers.tsr decrementer_status)
+
+-- At 0 it rests.
+abbrev pub RestsAtZero : Type 0
+RestsAtZero =
+    (n : ℕ) (registers : Registers) → registers.dec ≡ 0 →
+    ((after_steps n registers).dec ≡ 0) × ((after_steps n registers).tsr ≡ registers.tsr)
+
+-- the instruction that returns from the interrupt of a cause
+abbrev pub return_from : Cause → Op
+return_from MachineCheck = op.Rfmci
+return_from _ = op.Rfi
+
+-- where a program goes on after the interrupt of a cause
+abbrev pub resumption : Cause → Registers → ℕ
+resumption Syscall registers = next_instruction registers
+resumption _ registers = registers.pc
+
+-- the registers without what interrupts save and tell
+abbrev pub apart_from_interrupts : Registers → Registers
+apart_from_interrupts registers = record registers {
+  srr0 = 0;
+  srr1 = 0;
+  mcsrr0 = 0;
+  mcsrr1 = 0;
+  dear = 0;
+  esr = 0;
+}
+
+-- An interrupt and the return from it leave a core as it was, in the machine state that it had, where the program goes on.
+abbrev pub ReturnsGoBack : Type 0
+ReturnsGoBack =
+    (cause : Cause) (word : ℕ) (registers : Registers) → registers.pc % 4 ≡ 0 → machine_state registers.msr ≡ registers.msr →
+    let back = emulated (return_from cause) word (delivered cause registers) in
+    apart_from_interrupts back ≡ apart_from_interrupts (record registers { pc = resumption cause registers })

@@ -1,0 +1,34 @@
+//! The timers of a core.
+
+ghost use Rattle.std.specs.Prelude.{◌≡◌, ℕ};
+ghost use Rattle.trap_emulate.specs.Clock.{expired, ticked};
+
+use crate::state::{AUTO_RELOAD, DECREMENTER_STATUS, has};
+use guest_regs::Regs;
+
+/// Lets one step's time pass: the time base counts it, and the decrementer falls (Power ISA 2.06, Book III-E, chapter 9).
+#[tactic(auto, unfolding(crate::specs::Clock::ticked))]
+pub fn tick(regs: &mut Regs)
+    ensures { regs.new ≡ ticked regs.old }
+{
+    regs.set_time(regs.time().wrapping_add(1));
+    match regs.dec() {
+        0 => {}
+        1 => expire(regs),
+        left => regs.set_dec(left - 1),
+    }
+}
+
+/// The decrementer reaches its end: it tells so, and begins again where that is asked for.
+#[tactic(auto, unfolding(crate::specs::Clock::expired))]
+fn expire(regs: &mut Regs)
+    ensures { regs.new ≡ expired regs.old }
+{
+    let next = if has(regs.tcr(), AUTO_RELOAD) {
+        regs.decar()
+    } else {
+        0
+    };
+    regs.set_tsr(regs.tsr() | DECREMENTER_STATUS);
+    regs.set_dec(next);
+}

@@ -1,0 +1,86 @@
+//! The entry of interrupts.
+
+ghost use Rattle.std.specs.Prelude.{◌≡◌, ℕ, ◌<◌, ◌%◌, IsTrue};
+ghost use Rattle.trap_emulate.specs.Entry.{delivered, handler, interrupted, checked, may_enter};
+
+use crate::cause::Cause;
+use crate::state::{CRITICAL_ENABLE, MACHINE_CHECK_ENABLE, has};
+use guest_regs::Regs;
+
+/// Whether a core can enter the interrupt of a cause: a machine check needs MSR[ME], and nothing else needs anything.
+pub fn may_enter(regs: &Regs, cause: Cause) -> bool
+    ensures { result ≡ may_enter cause regs.now }
+{
+    match cause {
+        Cause::MachineCheck => has(regs.msr(), MACHINE_CHECK_ENABLE),
+        _ => true,
+    }
+}
+
+/// Enters the interrupt of a cause, which `may_enter` allows (Power ISA 2.06, Book III-E, chapter 7).
+#[tactic(auto, unfolding(crate::specs::Entry::delivered))]
+pub fn deliver(regs: &mut Regs, cause: Cause)
+    requires { IsTrue (may_enter cause regs.old) }
+    ensures { regs.new ≡ delivered cause regs.old }
+{
+    let here = regs.pc();
+    match cause {
+        Cause::MachineCheck => check(regs),
+        Cause::StorageData { ea, esr } => {
+            regs.set_dear(ea);
+            regs.set_esr(esr);
+            interrupt(regs, 2, here);
+        }
+        Cause::StorageInsn { esr } => {
+            regs.set_esr(esr);
+            interrupt(regs, 3, here);
+        }
+        Cause::External => interrupt(regs, 4, here),
+        Cause::Align { ea, esr } => {
+            regs.set_dear(ea);
+            regs.set_esr(esr);
+            interrupt(regs, 5, here);
+        }
+        Cause::Program { esr } => {
+            regs.set_esr(esr);
+            interrupt(regs, 6, here);
+        }
+        Cause::NoFloat => interrupt(regs, 7, here),
+        Cause::Syscall => interrupt(regs, 8, here.wrapping_add(4)),
+        Cause::Decrementer => interrupt(regs, 10, here),
+    }
+}
+
+/// The address of the handler of a kind of interrupt.
+#[tactic(auto, using(crate::proofs::Halves::halves_join))]
+fn handler_of(regs: &Regs, kind: u8) -> u32
+    requires { kind < 16 }
+    ensures address { result ≡ handler kind regs.now }
+    ensures aligned { result % 4 ≡ 0 }
+{
+    regs.ivpr() & 0xFFFF_0000 | regs.ivor(kind) & 0xFFF0
+}
+
+/// Enters an interrupt that `rfi` returns from, to `back`.
+#[tactic(auto, unfolding(crate::specs::Entry::interrupted))]
+fn interrupt(regs: &mut Regs, kind: u8, back: u32)
+    requires { kind < 16 }
+    ensures { regs.new ≡ interrupted kind back regs.old }
+{
+    let state = regs.msr();
+    regs.set_srr0(back);
+    regs.set_srr1(state);
+    regs.set_msr(state & (CRITICAL_ENABLE | MACHINE_CHECK_ENABLE));
+    regs.set_pc(handler_of(regs, kind));
+}
+
+/// Enters a machine check, which `rfmci` returns from.
+#[tactic(auto, unfolding(crate::specs::Entry::checked))]
+fn check(regs: &mut Regs)
+    ensures { regs.new ≡ checked regs.old }
+{
+    regs.set_mcsrr0(regs.pc());
+    regs.set_mcsrr1(regs.msr());
+    regs.set_msr(0);
+    regs.set_pc(handler_of(regs, 1));
+}

@@ -1,0 +1,358 @@
+use super::*;
+use guest_regs::{Regs, boot};
+use insn::decode;
+use std::test::*;
+
+/// Time base, DEC, DECAR, TCR and TSR before a step, and time base, DEC and TSR after it.
+const STEPS: [(u64, u32, u32, u32, u32, u64, u32, u32); 14] = [
+    (0, 0, 0, 0, 0, 1, 0, 0),
+    (0, 0, 7, 0x0440_0000, 0, 1, 0, 0), // at 0 nothing is reloaded
+    (0, 0, 7, 0, 0x0800_0000, 1, 0, 0x0800_0000),
+    (5, 2, 7, 0x0440_0000, 0, 6, 1, 0), // at 2 DIS isn't set yet
+    (6, 1, 7, 0x0440_0000, 0, 7, 7, 0x0800_0000), // ARE and DIE
+    (6, 1, 7, 0x0400_0000, 0, 7, 0, 0x0800_0000), // DIE alone
+    (6, 1, 7, 0xFFBF_FFFF, 0, 7, 0, 0x0800_0000), // all but ARE
+    (6, 1, 1, 0x0040_0000, 0, 7, 1, 0x0800_0000), // ARE alone, and 1 again
+    (6, 1, 0, 0x0040_0000, 0, 7, 0, 0x0800_0000),
+    (6, 1, 0, 0, 0xF7FF_FFFF, 7, 0, 0xFFFF_FFFF), // the other bits of TSR stay
+    (
+        6,
+        1,
+        0xFFFF_FFFF,
+        0x0040_0000,
+        0x0800_0000,
+        7,
+        0xFFFF_FFFF,
+        0x0800_0000,
+    ),
+    (6, 0xFFFF_FFFF, 0, 0, 0, 7, 0xFFFF_FFFE, 0),
+    (
+        0xFFFF_FFFF,
+        0x8000_0000,
+        0,
+        0,
+        0,
+        0x1_0000_0000,
+        0x7FFF_FFFF,
+        0,
+    ), // into the upper half
+    (0xFFFF_FFFF_FFFF_FFFF, 0, 0, 0, 0, 0, 0, 0),
+];
+
+#[test]
+fn a_step_passes_time(rt: HostRuntime) {
+    for &(time, dec, decar, tcr, tsr, later, left, told) in STEPS.iter() {
+        let mut regs = boot(0x100, 0x8000, 2);
+        regs.set_time(time);
+        regs.set_dec(dec);
+        regs.set_decar(decar);
+        regs.set_tcr(tcr);
+        regs.set_tsr(tsr);
+        tick(&mut regs);
+        assert_eq!(rt;
+            (regs.time(), regs.dec(), regs.tsr()),
+            (later, left, told),
+            "{time} {dec} {tcr:x}"
+        );
+        assert_eq!(rt; (regs.decar(), regs.tcr(), regs.pc()), (decar, tcr, 0x100));
+    }
+}
+
+#[test]
+fn a_decrementer_is_reloaded_again_and_again(rt: HostRuntime) {
+    let mut regs = boot(0, 0, 0);
+    regs.set_dec(2);
+    regs.set_decar(3);
+    regs.set_tcr(0x0040_0000);
+    for &(left, told) in [
+        (1, false),
+        (3, true),
+        (2, false),
+        (1, false),
+        (3, true),
+        (2, false),
+    ]
+    .iter()
+    {
+        regs.set_tsr(0);
+        tick(&mut regs);
+        assert_eq!(rt; (regs.dec(), regs.tsr() == 0x0800_0000), (left, told));
+    }
+    assert_eq!(rt; regs.time(), 6);
+}
+
+/// Causes with the number of their IVOR, DEAR, ESR and the address that they go back to. Each comes at 0x2000, with
+/// DEAR 0xD and ESR 0xE.
+const CAUSES: [(Cause, u32, u32, u32, u32); 12] = [
+    (
+        Cause::StorageData {
+            ea: 0x3004,
+            esr: 0x0082_0000,
+        },
+        2,
+        0x3004,
+        0x0082_0000,
+        0x2000,
+    ),
+    (
+        Cause::StorageData {
+            ea: 0xFFFF_FFFF,
+            esr: 0,
+        },
+        2,
+        0xFFFF_FFFF,
+        0,
+        0x2000,
+    ),
+    (
+        Cause::StorageInsn { esr: 0x0002_0000 },
+        3,
+        0xD,
+        0x0002_0000,
+        0x2000,
+    ),
+    (Cause::External, 4, 0xD, 0xE, 0x2000),
+    (
+        Cause::Align {
+            ea: 0x3002,
+            esr: 0x0080_0000,
+        },
+        5,
+        0x3002,
+        0x0080_0000,
+        0x2000,
+    ),
+    (Cause::Align { ea: 0x3001, esr: 0 }, 5, 0x3001, 0, 0x2000),
+    (
+        Cause::Program { esr: 0x0800_0000 },
+        6,
+        0xD,
+        0x0800_0000,
+        0x2000,
+    ),
+    (
+        Cause::Program { esr: 0x0400_0000 },
+        6,
+        0xD,
+        0x0400_0000,
+        0x2000,
+    ),
+    (
+        Cause::Program { esr: 0x0200_0000 },
+        6,
+        0xD,
+        0x0200_0000,
+        0x2000,
+    ),
+    (Cause::NoFloat, 7, 0xD, 0xE, 0x2000),
+    (Cause::Syscall, 8, 0xD, 0xE, 0x2004),
+    (Cause::Decrementer, 10, 0xD, 0xE, 0x2000),
+];
+
+/// A core at an address, with a machine state. The handler of kind n is at 0x1234_0000 + 0x100 n, and all that is
+/// saved has values of its own.
+fn core_at(pc: u32, state: u32) -> Regs {
+    let mut regs = boot(0, 0, 0);
+    regs.set_pc(pc);
+    regs.set_msr(state);
+    regs.set_ivpr(0x1234_5678);
+    for n in 0..16 {
+        regs.set_ivor(n, 0xABC0_0005 + 0x100 * n as u32);
+    }
+    regs.set_dear(0xD);
+    regs.set_esr(0xE);
+    regs.set_srr0(0xA0);
+    regs.set_srr1(0xA1);
+    regs.set_csrr0(0xB0);
+    regs.set_csrr1(0xB1);
+    regs.set_mcsrr0(0xC0);
+    regs.set_mcsrr1(0xC1);
+    regs
+}
+
+/// Does the instruction of a word where the system runs and the instruction is done here.
+fn emulates(word: u32, regs: &mut Regs) -> bool {
+    let insn = decode(word);
+    if is_user(regs) || !is_emulated(insn.op) {
+        return false;
+    }
+    emulate(&insn, regs);
+    true
+}
+
+#[test]
+fn each_cause_goes_to_its_handler(rt: HostRuntime) {
+    for &(cause, kind, dear, esr, back) in CAUSES.iter() {
+        for &(state, inside) in [
+            (0x1002_D030, 0x1002_1000), // all bits: GS, CE and ME stay
+            (0x1000_C030, 0x1000_0000),
+            (0x1000_9000, 0x1000_1000),
+            (0x1002_4000, 0x1002_0000),
+            (0x1000_0000, 0x1000_0000),
+        ]
+        .iter()
+        {
+            let mut regs = core_at(0x2000, state);
+            assert!(rt; may_enter(&regs, cause));
+            deliver(&mut regs, cause);
+            assert_eq!(rt;
+                (regs.pc(), regs.msr()),
+                (0x1234_0000 + 0x100 * kind, inside),
+                "{kind} {state:x}"
+            );
+            assert_eq!(rt; (regs.srr0(), regs.srr1()), (back, state), "{kind}");
+            assert_eq!(rt; (regs.dear(), regs.esr()), (dear, esr), "{kind}");
+            assert_eq!(rt; (regs.csrr0(), regs.csrr1()), (0xB0, 0xB1));
+            assert_eq!(rt; (regs.mcsrr0(), regs.mcsrr1()), (0xC0, 0xC1));
+        }
+    }
+    let mut regs = core_at(0xFFFF_FFFC, 0x1000_0000);
+    deliver(&mut regs, Cause::Syscall);
+    assert_eq!(rt; regs.srr0(), 0);
+}
+
+#[test]
+fn a_machine_check_has_registers_of_its_own(rt: HostRuntime) {
+    for &state in [0x1000_1000, 0x1002_D030, 0x1000_5000].iter() {
+        let mut regs = core_at(0x2000, state);
+        assert!(rt; may_enter(&regs, Cause::MachineCheck));
+        deliver(&mut regs, Cause::MachineCheck);
+        assert_eq!(rt; (regs.pc(), regs.msr()), (0x1234_0100, 0x1000_0000));
+        assert_eq!(rt; (regs.mcsrr0(), regs.mcsrr1()), (0x2000, state));
+        assert_eq!(rt; (regs.srr0(), regs.srr1()), (0xA0, 0xA1));
+        assert_eq!(rt; (regs.csrr0(), regs.csrr1()), (0xB0, 0xB1));
+        assert_eq!(rt; (regs.dear(), regs.esr()), (0xD, 0xE));
+        assert!(rt; emulates(0x4C00_004C, &mut regs)); // rfmci
+        assert_eq!(rt; (regs.pc(), regs.msr()), (0x2000, state));
+    }
+}
+
+/// Words with MSR and (r3) before, at 0x2000, and the PC, MSR and r3 after.
+const ROWS: [(u32, u32, u32, u32, u32, u32); 22] = [
+    (0x4C00_0064, 0x1000_0000, 1, 0xA0, 0x1002_0020, 1), // rfi
+    (0x4C00_0066, 0x1000_0000, 1, 0xB0, 0x1000_0030, 1), // rfci
+    (0x4C00_004C, 0x1000_0000, 1, 0xC0, 0x1000_1000, 1), // rfmci
+    (
+        0x7C60_00A6,
+        0x1002_9030,
+        1,
+        0x2004,
+        0x1002_9030,
+        0x1002_9030,
+    ), // mfmsr r3
+    (0x7C80_00A6, 0x1002_9030, 1, 0x2004, 0x1002_9030, 1), // mfmsr r4
+    (0x7C60_0124, 0x1000_0000, 0, 0x2004, 0x1000_0000, 0), // mtmsr r3 keeps GS
+    (0x7C60_0124, 0x1002_9030, 0, 0x2004, 0x1000_0000, 0),
+    (
+        0x7C60_0124,
+        0x1000_0000,
+        0xFFFF_FFFF,
+        0x2004,
+        0x1002_D030,
+        0xFFFF_FFFF,
+    ),
+    (
+        0x7C60_0124,
+        0x1000_0000,
+        0x4000,
+        0x2004,
+        0x1000_4000,
+        0x4000,
+    ), // to a user program
+    (
+        0x7C60_0106,
+        0x1002_1030,
+        0x8000,
+        0x2004,
+        0x1002_9030,
+        0x8000,
+    ), // wrtee r3
+    (
+        0x7C60_0106,
+        0x1002_9030,
+        0x8000,
+        0x2004,
+        0x1002_9030,
+        0x8000,
+    ),
+    (
+        0x7C60_0106,
+        0x1002_9030,
+        0xFFFF_7FFF,
+        0x2004,
+        0x1002_1030,
+        0xFFFF_7FFF,
+    ),
+    (
+        0x7C60_0106,
+        0x1000_0000,
+        0xFFFF_FFFF,
+        0x2004,
+        0x1000_8000,
+        0xFFFF_FFFF,
+    ),
+    (0x7C60_0106, 0x1000_0000, 0, 0x2004, 0x1000_0000, 0),
+    (0x7C00_8146, 0x1000_0000, 0, 0x2004, 0x1000_8000, 0), // wrteei 1
+    (0x7C00_8146, 0x1002_9030, 0, 0x2004, 0x1002_9030, 0),
+    (
+        0x7C00_0146,
+        0x1002_9030,
+        0x8000,
+        0x2004,
+        0x1002_1030,
+        0x8000,
+    ), // wrteei 0
+    (
+        0x7C60_0146,
+        0x1002_9030,
+        0x8000,
+        0x2004,
+        0x1002_1030,
+        0x8000,
+    ),
+    (
+        0x7C00_0146,
+        0x1000_0000,
+        0xFFFF_FFFF,
+        0x2004,
+        0x1000_0000,
+        0xFFFF_FFFF,
+    ),
+    (0x7C00_046C, 0x1002_9030, 9, 0x2004, 0x1002_9030, 9), // tlbsync
+    (0x7C00_1BAC, 0x1002_9030, 9, 0x2004, 0x1002_9030, 9), // dcbi 0, r3
+    (0x7C04_1BAC, 0x1000_0000, 9, 0x2004, 0x1000_0000, 9), // dcbi r4, r3
+];
+
+#[test]
+fn privileged_rows(rt: HostRuntime) {
+    for &(word, state, given, pc, after, left) in ROWS.iter() {
+        let mut regs = core_at(0x2000, state);
+        regs.set_srr1(0x0FFF_2F20);
+        regs.set_csrr1(0x30);
+        regs.set_mcsrr1(0x1000);
+        regs.set_gpr(3, given);
+        assert!(rt; emulates(word, &mut regs), "{word:x}");
+        assert_eq!(rt;
+            (regs.pc(), regs.msr(), regs.gpr(3)),
+            (pc, after, left),
+            "{word:x} {state:x} {given:x}"
+        );
+        assert_eq!(rt;
+            (regs.srr0(), regs.csrr0(), regs.mcsrr0()),
+            (0xA0, 0xB0, 0xC0)
+        );
+    }
+    // what a user program has not, and what is done elsewhere
+    assert!(rt; !emulates(0x4C00_0064, &mut core_at(0, 0x4000)));
+    assert!(rt;
+        !emulates(0x7C00_07A4, &mut core_at(0, 0)) && !emulates(0x7C60_1A14, &mut core_at(0, 0))
+    );
+    assert!(rt; !may_enter(&core_at(0, 0x0002_C030), Cause::MachineCheck));
+    // a return clears the low two bits of its address
+    let mut regs = core_at(0xFFFF_FFFC, 0);
+    assert!(rt; emulates(0x7C00_046C, &mut regs));
+    assert_eq!(rt; regs.pc(), 0);
+    regs.set_srr0(0xFFFF_FFFF);
+    assert!(rt; emulates(0x4C00_0064, &mut regs));
+    assert_eq!(rt; regs.pc(), 0xFFFF_FFFC);
+}
