@@ -7,18 +7,20 @@ use outside::NoMemory;
 use std::alloc::Global;
 use std::marker::Model;
 
-/// One extent: bytes whose number never changes.
+/// One extent: fewer than 2^32 bytes, whose number never changes.
 #[derive(Drop)]
 pub struct Extent {
     bytes: Vec<u8>,
 }
 
 impl Model for Extent {
-    ghost use Rattle.std.specs.Prelude.{ℕ, List};
+    ghost use Rattle.std.specs.Prelude.{ℕ, ◌<◌, ◌^◌, List, length};
 
     ghost Value = { List ℕ };
 
     ghost view = { λ extent. extent.bytes.items };
+
+    ghost invariant = { λ extent. length extent.bytes.items < 2 ^ 32 };
 }
 
 impl Extent {
@@ -28,6 +30,13 @@ impl Extent {
     {
         let bytes = vec![in alloc; 0u8; size as usize]?;
         Ok(Extent { bytes })
+    }
+
+    /// How many bytes it has.
+    pub fn size(&self) -> u32
+        ensures { result ≡ length self.now }
+    {
+        self.bytes.len() as u32
     }
 
     /// All its bytes.

@@ -37,6 +37,14 @@ impl Ground {
         Ok(Ground { extents })
     }
 
+    /// How many bytes an extent has.
+    pub fn size(&self, extent: usize) -> u32
+        requires { extent < length self.now }
+        ensures { result ≡ length (extent_at self.now extent) }
+    {
+        self.extents[extent].size()
+    }
+
     /// The byte at an offset.
     pub fn load8(&self, extent: usize, at: u32) -> u8
         requires { HasRange self.now extent at 1 }

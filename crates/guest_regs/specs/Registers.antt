@@ -1,5 +1,5 @@
 -- The registers of a core (Power ISA 2.06: Book I, sections 2.3 and 3.2; Book III-E, chapters 4 to 7 and 9).
-use Rattle.std.specs.Prelude.{ℕ, ◌-◌, ◌%◌, ◌/◌, ◌^◌, ◌==◌, Bool, false, List, Option, None, replicate, slice_index, slice_set, bit_and, bit_or}
+use Rattle.std.specs.Prelude.{ℕ, ◌+◌, ◌-◌, ◌%◌, ◌/◌, ◌^◌, ◌==◌, Bool, false, List, Option, None, replicate, slice_index, slice_set, bit_and, bit_or}
 
 pub record Registers : Type 0 where
   -- general registers 0 to 31
@@ -62,6 +62,10 @@ with_gpr registers n value = record registers { gpr = slice_set registers.gpr n 
 abbrev pub instruction_address : ℕ → ℕ
 instruction_address value = value - value % 4
 
+-- on to the next instruction
+unfoldable pub advanced : Registers → Registers
+advanced registers = record registers { pc = instruction_address ((registers.pc + 4) % 2 ^ 32) }
+
 -- MSR keeps CE, EE, PR, ME, IS and DS. GS is 1, since the core is a guest's.
 abbrev pub machine_state : ℕ → ℕ
 machine_state value = bit_or (bit_and value 0x0002D030) 0x10000000
@@ -69,6 +73,13 @@ machine_state value = bit_or (bit_and value 0x0002D030) 0x10000000
 -- PR, bit 49 of 64: the problem state, in which user programs run
 abbrev pub in_problem_state : Registers → Bool
 in_problem_state registers = registers.msr / 2 ^ 14 % 2 == 1
+
+-- IS and DS, bits 58 and 59: the address spaces of instructions and of data
+abbrev pub instruction_space : Registers → Bool
+instruction_space registers = registers.msr / 2 ^ 5 % 2 == 1
+
+abbrev pub data_space : Registers → Bool
+data_space registers = registers.msr / 2 ^ 4 % 2 == 1
 
 -- the bits that these registers keep
 abbrev pub xer_bits : ℕ

@@ -2,7 +2,6 @@
 
 ghost use Rattle.std.specs.Prelude.{◌≡◌, ℕ};
 ghost use Rattle.guest_regs.specs.Special.{special_of, special_among, numbers, IsInRun, special_value, other_value, special_written, other_written, is_privileged, is_listed, is_user_writable, spr_read, spr_write, Written, KeepsUnlessDone};
-ghost use Rattle.guest_regs.specs.Registers.{in_problem_state};
 
 use crate::answer::{ReadAnswer, WriteAnswer};
 use crate::registers::Regs;
@@ -182,13 +181,6 @@ fn needs_privilege(number: u32) -> bool
     number / 16 % 2 == 1
 }
 
-/// Whether MSR[PR] is set.
-fn is_user(regs: &Regs) -> bool
-    ensures { result ≡ in_problem_state regs.now }
-{
-    regs.msr() / 0x4000 % 2 == 1
-}
-
 /// What `mfspr` of the number `n` gives. The answer is `Privileged` where the number is the system's and MSR[PR]
 /// is set, and `Illegal` where it is not the system's and names no register.
 #[tactic(auto, unfolding(crate::specs::Special::spr_read))]
@@ -197,7 +189,7 @@ pub fn spr_read(regs: &Regs, n: u32) -> ReadAnswer
 {
     let special = special_of_number(n);
     let privileged = needs_privilege(n);
-    if privileged && is_user(regs) {
+    if privileged && regs.is_user() {
         ReadAnswer::Privileged
     } else if privileged || special != Special::Unlisted {
         ReadAnswer::Value(value_of(regs, special))
@@ -216,7 +208,7 @@ pub fn spr_write(regs: &mut Regs, n: u32, v: u32) -> WriteAnswer
 {
     let special = special_of_number(n);
     let privileged = needs_privilege(n);
-    if privileged && is_user(regs) {
+    if privileged && regs.is_user() {
         WriteAnswer::Privileged
     } else if privileged || is_written_by_users(special) {
         set(regs, special, v);

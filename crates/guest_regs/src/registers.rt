@@ -1,7 +1,7 @@
 //! The registers of a core, and those that have a reader and a writer by name.
 
 ghost use Rattle.std.specs.Prelude.{◌≡◌, ℕ, ◌<◌, ◌%◌, ◌^◌, length, slice_index, slice_set, bit_and, bit_or};
-ghost use Rattle.guest_regs.specs.Registers.{Registers, gpr_of, with_gpr, instruction_address, machine_state, version, first_tlb_shape, second_tlb_shape, ivor_bits, boot_registers, xer_bits, pid_bits, ivpr_bits, mas7_bits, l1csr0_bits, l1csr1_bits, bucsr_bits};
+ghost use Rattle.guest_regs.specs.Registers.{Registers, gpr_of, with_gpr, instruction_address, advanced, machine_state, in_problem_state, instruction_space, data_space, version, first_tlb_shape, second_tlb_shape, ivor_bits, boot_registers, xer_bits, pid_bits, ivpr_bits, mas7_bits, l1csr0_bits, l1csr1_bits, bucsr_bits};
 
 use std::marker::Model;
 
@@ -19,6 +19,15 @@ const INITIAL_AREA: u32 = 0x0400_0000;
 
 /// GS of the MSR, which is 1 for a guest.
 const GUEST_STATE: u32 = 0x1000_0000;
+
+/// PR of the MSR, which is 1 for a user program.
+const PROBLEM_STATE: u32 = 0x4000;
+
+/// IS of the MSR, the address space of instructions.
+const INSTRUCTION_SPACE: u32 = 0x20;
+
+/// DS of the MSR, the address space of data.
+const DATA_SPACE: u32 = 0x10;
 
 /// CE, EE, PR, ME, IS and DS of the MSR.
 const STATE_BITS: u32 = 0x0002_D030;
@@ -283,6 +292,37 @@ impl Regs {
         ensures { self.new ≡ record self.old { pc = instruction_address value } }
     {
         self.pc = value - value % 4;
+    }
+
+    /// Goes on to the next instruction.
+    #[tactic(auto, unfolding(crate::specs::Registers::advanced))]
+    pub fn advance(&mut self)
+        ensures { self.new ≡ advanced self.old }
+    {
+        self.set_pc(self.pc.wrapping_add(4));
+    }
+
+    /// Whether MSR[PR] is set: a user program runs, and has no privileged instructions (Power ISA 2.06, Book III-E,
+    /// chapter 4).
+    pub fn is_user(&self) -> bool
+        ensures { result ≡ in_problem_state self.now }
+    {
+        self.msr / PROBLEM_STATE % 2 == 1
+    }
+
+    /// MSR[IS], the address space that instructions are fetched from: 1 where it is set (Power ISA 2.06, Book III-E,
+    /// chapter 4).
+    pub fn instruction_space(&self) -> bool
+        ensures { result ≡ instruction_space self.now }
+    {
+        self.msr / INSTRUCTION_SPACE % 2 == 1
+    }
+
+    /// MSR[DS], the address space of loads and stores: 1 where it is set (Power ISA 2.06, Book III-E, chapter 4).
+    pub fn data_space(&self) -> bool
+        ensures { result ≡ data_space self.now }
+    {
+        self.msr / DATA_SPACE % 2 == 1
     }
 
     /// The machine state register, in which GS is always 1 (Power ISA 2.06, Book III-E, chapter 4).

@@ -8,12 +8,12 @@ use Rattle.guest_regs.specs.declared.answer.ReadAnswer.{ReadAnswer}
 use Rattle.guest_regs.specs.declared.answer.ReadAnswer.TheVariants as read
 use Rattle.guest_regs.specs.declared.answer.WriteAnswer.{WriteAnswer}
 use Rattle.guest_regs.specs.declared.answer.WriteAnswer.TheVariants as write
-use Rattle.guest_regs.specs.Registers.{Registers, in_problem_state}
+use Rattle.guest_regs.specs.Registers.{Registers, advanced, in_problem_state}
 use Rattle.guest_regs.specs.Special.{spr_read, spr_write, Written}
 use Rattle.insn_alu.specs.declared.effect.Effect.{Effect}
 use Rattle.insn_alu.specs.declared.effect.Effect.TheVariants.{Done, Memory, Priv, Trap, Illegal, NoFloat, Syscall, Hcall, Wait}
 use Rattle.insn_alu.specs.Numbers.{signed_value, complement, overflows, compared, shifted_left, shifted_right, extended_byte, extended_half, low_product, high_product, high_signed_product, has_no_quotient, signed_quotient, unsigned_quotient, traps}
-use Rattle.insn_alu.specs.Fields.{carry, advanced, a_of, b_of, s_of, base_of, extended_immediate, upper, result_in, result_recorded, result_in_form, arithmetic}
+use Rattle.insn_alu.specs.Fields.{carry, a_of, b_of, s_of, base_of, extended_immediate, upper, result_in, result_recorded, result_in_form, arithmetic}
 use Rattle.insn_alu.specs.Rows.{sum_row, carrying_row, carrying_in, carrying_recorded, comparison_row, rotation_row, insertion_row, algebraic_row, selected, target_of, branch_row, conditional_row, count_register_row, condition_row, first_bit, second_bit, same, field_row, fields_row}
 use Rattle.insn_alu.specs.Transfers.{transfer_of, transfer_effect}
 

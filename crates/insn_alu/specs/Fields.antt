@@ -2,7 +2,7 @@
 use Rattle.std.specs.Prelude.{ℕ, ◌+◌, ◌-◌, ◌*◌, ◌/◌, ◌%◌, ◌^◌, ◌==◌, Bool, pos, bit_and, if◌then◌else◌}
 use Rattle.std.specs.Int.{w32, cast_unsigned}
 use Rattle.insn.specs.Fields.{rt_field, ra_field, rb_field, immediate, signed_immediate, record_bit, overflow_bit}
-use Rattle.guest_regs.specs.Registers.{Registers, gpr_of, with_gpr, instruction_address, xer_bits}
+use Rattle.guest_regs.specs.Registers.{Registers, gpr_of, with_gpr, instruction_address, advanced, xer_bits}
 use Rattle.insn_alu.specs.Numbers.{signed_value, compared}
 
 -- another digit at a place of a number that is written in a base
@@ -52,12 +52,9 @@ with_condition n order registers = record registers { cr = with_field registers.
 unfoldable pub recorded : ℕ → Registers → Registers
 recorded value registers = with_condition 0 (compared (signed_value value) (pos 0)) registers
 
--- on to another instruction, or to the next
+-- on to another instruction
 abbrev pub gone_to : ℕ → Registers → Registers
 gone_to address registers = record registers { pc = instruction_address address }
-
-unfoldable pub advanced : Registers → Registers
-advanced registers = gone_to ((registers.pc + 4) % 2 ^ 32) registers
 
 -- (RA), (RB), (RS) and (RA|0)
 abbrev pub a_of : ℕ → Registers → ℕ

@@ -2,9 +2,9 @@
 use Rattle.std.specs.Prelude.{ℕ, ◌+◌, ◌-◌, ◌*◌, ◌/◌, ◌%◌, ◌^◌, ◌==◌, Bool, true, false, not, ◌&&◌, ◌||◌, ℤ, pos, ◌+ℤ◌, bit_and, if◌then◌else◌}
 use Rattle.std.specs.Int.{w32, cast_unsigned}
 use Rattle.insn.specs.Fields.{rt_field, ra_field, rb_field, absolute_bit, link_bit, branch_displacement, bf_field, bfa_field, mask_begin, mask_end, fxm_field}
-use Rattle.guest_regs.specs.Registers.{Registers}
+use Rattle.guest_regs.specs.Registers.{Registers, advanced}
 use Rattle.insn_alu.specs.Numbers.{signed_value, overflows, mask, inserted, rotated, shifted_algebraic, algebraic_carry}
-use Rattle.insn_alu.specs.Fields.{condition_field, with_field, condition_bit, with_bit, with_carry, with_condition, gone_to, advanced, a_of, b_of, s_of, base_of, result_in, result_recorded, result_in_form, arithmetic}
+use Rattle.insn_alu.specs.Fields.{condition_field, with_field, condition_bit, with_bit, with_carry, with_condition, gone_to, a_of, b_of, s_of, base_of, result_in, result_recorded, result_in_form, arithmetic}
 
 -- a sum of two words and a carry, as an arithmetic row gives it
 unfoldable pub sum_row : ℕ → ℕ → ℕ → ℕ → Registers → Registers

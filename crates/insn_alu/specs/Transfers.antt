@@ -7,7 +7,7 @@ use Rattle.std.specs.Int.{w16, w32, cast_signed, cast_unsigned, from_be_bytes, f
 use Rattle.insn.specs.declared.instruction.Op.{Op}
 use Rattle.insn.specs.declared.instruction.Op.TheVariants as op
 use Rattle.insn.specs.Fields.{rt_field, ra_field}
-use Rattle.guest_regs.specs.Registers.{Registers, with_gpr}
+use Rattle.guest_regs.specs.Registers.{Registers, with_gpr, advanced}
 use Rattle.insn_alu.specs.declared.effect.Form.{Form}
 use Rattle.insn_alu.specs.declared.effect.Form.TheVariants as form
 use Rattle.insn_alu.specs.declared.effect.Access.{Access}
@@ -18,7 +18,7 @@ use Rattle.insn_alu.specs.declared.transfer.Addressing.{Addressing}
 use Rattle.insn_alu.specs.declared.transfer.Addressing.TheVariants.{Displaced, DisplacedUpdate, Indexed, IndexedUpdate}
 use Rattle.insn_alu.specs.declared.transfer.Kind.{Kind}
 use Rattle.insn_alu.specs.declared.transfer.Kind.TheVariants.{Byte, Half, SignedHalf, Word, ReversedHalf, ReversedWord, Words, Exclusive, Block}
-use Rattle.insn_alu.specs.Fields.{summary, with_field, advanced, a_of, b_of, s_of, base_of, extended_immediate}
+use Rattle.insn_alu.specs.Fields.{summary, with_field, a_of, b_of, s_of, base_of, extended_immediate}
 
 abbrev load : Addressing → Kind → Option Transfer
 load addressing kind = Some (record { addressing = addressing; kind = kind; store = false })

@@ -10,9 +10,7 @@ ghost use Rattle.insn_alu.specs.Completion.{TellsWhether, Finishes};
 ghost use Rattle.insn_alu.specs.Transfers.{transfer_of, effective, size_of, form_of, accessed, updated, loaded, filled, told, finished, stored_bytes, transfer_effect, IsFinishedBy, finished_by, IsStore, stored_by};
 
 use crate::effect::{Access, Form};
-use crate::fields::{
-    a_of, advance, b_of, base_of, extended_immediate, replace_field, s_of, summary_of,
-};
+use crate::fields::{a_of, b_of, base_of, extended_immediate, replace_field, s_of, summary_of};
 use crate::moves::transfer_by;
 use crate::transfer::{Addressing, Kind, Transfer};
 use arrayvec::ArrayVec;
@@ -194,7 +192,7 @@ fn finish(transfer: Transfer, insn: Insn, regs: &mut Regs, bytes: &[u8])
         fill(transfer.kind, insn, regs, bytes);
     }
     update(transfer.addressing, insn, regs, address);
-    advance(regs);
+    regs.advance();
 }
 
 /// Completes a load or store whose access was made: the registers take what a load brings, RA the address of an

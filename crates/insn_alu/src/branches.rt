@@ -4,7 +4,7 @@ ghost use Rattle.std.specs.Prelude.{◌≡◌, ℕ, ◌<◌, ◌≤◌, ◌^◌,
 ghost use Rattle.insn_alu.specs.Rows.{comparison_row, selected, same, condition_met, counts, counted, count_met, linked, branched, target_of, branch_row, conditional_row, count_register_row, condition_row, first_bit, second_bit, field_row, chosen_field, chosen_fields, fields_row};
 
 use crate::fields::{
-    advance, b_of, base_of, bit_of, field_of, replace_bit, replace_field, s_of, set_condition,
+    b_of, base_of, bit_of, field_of, replace_bit, replace_field, s_of, set_condition,
 };
 use crate::numbers::power;
 use guest_regs::Regs;
@@ -24,7 +24,7 @@ pub fn set_order(insn: Insn, regs: &mut Regs, order: u32)
     ensures { regs.new ≡ comparison_row insn.word order regs.old }
 {
     set_condition(regs, insn.bf(), order);
-    advance(regs);
+    regs.advance();
 }
 
 /// What isel chooses.
@@ -88,7 +88,7 @@ fn go(insn: Insn, regs: &mut Regs, taken: bool, target: u32)
     if taken {
         regs.set_pc(target);
     } else {
-        advance(regs);
+        regs.advance();
     }
 }
 
@@ -148,7 +148,7 @@ pub fn set_bit(insn: Insn, regs: &mut Regs, value: bool)
 {
     let cr = replace_bit(regs.cr(), insn.rt() as u32, value);
     regs.set_cr(cr);
-    advance(regs);
+    regs.advance();
 }
 
 /// Field BF takes field BFA.
@@ -159,7 +159,7 @@ pub fn move_field(insn: Insn, regs: &mut Regs)
     let value = field_of(regs.cr(), insn.bfa());
     let cr = replace_field(regs.cr(), insn.bf(), value);
     regs.set_cr(cr);
-    advance(regs);
+    regs.advance();
 }
 
 /// A field of the one word where FXM names it, else of the other.
@@ -197,5 +197,5 @@ pub fn set_fields(insn: Insn, regs: &mut Regs)
 {
     let cr = choose_all(insn.fxm(), s_of(insn, regs), regs.cr());
     regs.set_cr(cr);
-    advance(regs);
+    regs.advance();
 }

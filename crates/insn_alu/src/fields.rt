@@ -2,7 +2,7 @@
 
 ghost use Rattle.std.specs.Prelude.{◌≡◌, ℕ, ◌<◌, ◌≤◌, ◌^◌, ◌*◌, ◌/◌, ◌%◌, ◌+◌, pos};
 ghost use Rattle.guest_regs.specs.Registers.{Registers, gpr_of, with_gpr};
-ghost use Rattle.insn_alu.specs.Fields.{replaced, field_place, condition_field, with_field, condition_bit, with_bit, with_xer, summary, carry, with_carry, with_overflow, with_condition, recorded, gone_to, advanced, a_of, b_of, s_of, base_of, extended_immediate, upper, result_in, result_recorded, result_in_form, arithmetic};
+ghost use Rattle.insn_alu.specs.Fields.{replaced, field_place, condition_field, with_field, condition_bit, with_bit, with_xer, summary, carry, with_carry, with_overflow, with_condition, recorded, gone_to, a_of, b_of, s_of, base_of, extended_immediate, upper, result_in, result_recorded, result_in_form, arithmetic};
 
 use crate::numbers::{order_signed, power};
 use guest_regs::Regs;
@@ -110,14 +110,6 @@ fn record_result(regs: &mut Regs, value: u32)
     set_condition(regs, 0, order_signed(value, 0));
 }
 
-/// On to the next instruction.
-#[tactic(auto, unfolding(crate::specs::Fields::advanced))]
-pub fn advance(regs: &mut Regs)
-    ensures { regs.new ≡ advanced regs.old }
-{
-    regs.set_pc(regs.pc().wrapping_add(4));
-}
-
 /// (RA)
 pub fn a_of(insn: Insn, regs: &Regs) -> u32
     ensures { result ≡ a_of insn.word regs.now }
@@ -170,7 +162,7 @@ pub fn set_result(regs: &mut Regs, number: usize, value: u32)
     ensures { regs.new ≡ result_in number value regs.old }
 {
     regs.set_gpr(number as u8, value);
-    advance(regs);
+    regs.advance();
 }
 
 /// A register takes its result, and CR0 compares it.
@@ -181,7 +173,7 @@ pub fn set_recorded(regs: &mut Regs, number: usize, value: u32)
 {
     regs.set_gpr(number as u8, value);
     record_result(regs, value);
-    advance(regs);
+    regs.advance();
 }
 
 /// A register takes its result, and CR0 compares it where Rc is 1.

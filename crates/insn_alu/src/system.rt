@@ -1,24 +1,16 @@
 //! Traps, special registers, hints, and what is left to the layers above.
 
 ghost use Rattle.std.specs.Prelude.{◌≡◌, ℕ};
-ghost use Rattle.guest_regs.specs.Registers.{in_problem_state};
 ghost use Rattle.insn_alu.specs.Exec.{invalidate_effect, call_effect, effect_of, special_read_row, special_write_row, time_row, trap_row, system_of, KeepsUnlessDone, TransfersForMemory};
 ghost use Rattle.insn_alu.specs.Transfers.{transfer_of, transfer_effect};
 
 use crate::access::access_of;
 use crate::effect::Effect;
-use crate::fields::{a_of, advance, b_of, extended_immediate, s_of, set_result};
+use crate::fields::{a_of, b_of, extended_immediate, s_of, set_result};
 use crate::moves::transfer_by;
 use crate::numbers::is_trapped;
 use guest_regs::{ReadAnswer, Regs, WriteAnswer, spr_read, spr_write};
 use insn::{Insn, Op};
-
-/// Whether MSR[PR] is set.
-fn is_user(regs: &Regs) -> bool
-    ensures { result ≡ in_problem_state regs.now }
-{
-    regs.msr() / 0x4000 % 2 == 1
-}
 
 /// Traps where TO asks for it, and else goes on.
 #[tactic(auto, unfolding(crate::specs::Exec::trap_row))]
@@ -30,7 +22,7 @@ fn trap(insn: Insn, regs: &mut Regs, one: u32, other: u32) -> Effect
     if is_trapped(insn.rt() as u32, one, other) {
         return Effect::Trap;
     }
-    advance(regs);
+    regs.advance();
     Effect::Done
 }
 
@@ -61,7 +53,7 @@ fn write_special(insn: Insn, regs: &mut Regs) -> Effect
     let value = s_of(insn, regs);
     match spr_write(regs, insn.spr(), value) {
         WriteAnswer::Done => {
-            advance(regs);
+            regs.advance();
             Effect::Done
         }
         WriteAnswer::Illegal => Effect::Illegal,
@@ -107,7 +99,7 @@ pub fn exec_system(insn: Insn, regs: &mut Regs) -> Effect
         | Op::Dcba
         | Op::Mbar
         | Op::Icbi => {
-            advance(regs);
+            regs.advance();
             Effect::Done
         }
         _ => effect_by(insn, regs),
@@ -118,7 +110,7 @@ pub fn exec_system(insn: Insn, regs: &mut Regs) -> Effect
 fn call(regs: &Regs) -> Effect
     ensures { result ≡ call_effect regs.now }
 {
-    if is_user(regs) {
+    if regs.is_user() {
         Effect::Priv
     } else {
         Effect::Hcall
@@ -129,7 +121,7 @@ fn call(regs: &Regs) -> Effect
 fn invalidate(insn: Insn, regs: &Regs) -> Effect
     ensures { result ≡ invalidate_effect insn.word regs.now }
 {
-    if insn.invalidate_kind() == 2 && !is_user(regs) {
+    if insn.invalidate_kind() == 2 && !regs.is_user() {
         Effect::Illegal
     } else {
         Effect::Priv

@@ -1,3 +1,4 @@
-pub mod Wrapped
-pub mod Examples
+pub mod Loading
+pub mod Backed
+pub mod Steps
 pub mod Refusals

@@ -1,26 +1,34 @@
 -- A hypercall that was not done leaves the rest as it was.
-use Rattle.std.proofs.Common.{◌≡◌, ℕ, ◌<◌, Bool, true, false, cond, length, length-set, set, get_or-set_other, get_or-set_same, refl, ◌∙◌, arith}
-use Rattle.std.proofs.lemmas.Bool.{lt-ltb}
+use Rattle.std.proofs.Common.{◌≡◌, ◌≢◌, ℕ, ◌<◌, Bool, true, false, cond, ◌&&◌, length, length-set, set, get_or-set_other, get_or-set_same, refl, sym, ap, subst, ◌∙◌, arith}
+use Rattle.guest_regs.specs.Registers.{Registers, gpr_of, advanced}
+use Rattle.core_step.specs.Step as core
+use Rattle.trap_emulate.specs.Clock.{is_decrementer_pending}
+use Rattle.trap_emulate.specs.Entry.{are_interrupts_enabled}
 use Rattle.partition.specs.declared.call.Call.{Call}
 use Rattle.partition.specs.declared.call.Call.TheVariants as call
 use Rattle.partition.specs.declared.call.Status.{Status}
 use Rattle.partition.specs.declared.call.Status.TheVariants as status
-use Rattle.partition.specs.Registers.{gpr_of}
-use Rattle.partition.specs.Hypercall.{answered, code_of}
+use Rattle.partition.specs.Hypercall.{answered, code_of, call_of}
 use Rattle.partition.specs.Machine.{Machine}
-use Rattle.partition.specs.Step.{Stepped, refused, delivered, send, served, performed, step}
+use Rattle.partition.specs.Initial.{lookup}
+use Rattle.partition.specs.Step.{Stepped, Act, Unbuilt, refused, sending, send, served, handled, instruction, acted, begun, unless_unbuilt, step}
+use Rattle.core_step.proofs.Unchanged.{kept}
+use Rattle.partition.proofs.Steps.{woken_back}
 use Rattle.partition.specs.Refusal.{KeepsMost, RefusesQuietly, RefusalsAreQuiet}
 
 -- nothing has changed
 quiet-same : (machine : Machine) → RefusesQuietly machine machine
-quiet-same machine refusal = (record { memory = refl; link = refl; registers = λ n _ _. refl }, λ _. record { fourth = refl; ports = refl })
+quiet-same machine refusal =
+    (record { memory = refl; steps = refl; faulted = refl; others = refl; registers = λ n _ _. refl }, λ _. record { fourth = refl; ports = refl })
 
 quiet-refused : (s : Status) (machine : Machine) → RefusesQuietly machine (refused s machine).after
-unfolding refused answered
+unfolding refused answered advanced
 quiet-refused s machine refusal = (
   record {
     memory = refl;
-    link = refl;
+    steps = refl;
+    faulted = refl;
+    others = refl;
     registers = λ n other _. get_or-set_other machine.registers.gpr 3 n (code_of s) 0 other;
   },
   λ _. record {
@@ -29,27 +37,29 @@ quiet-refused s machine refusal = (
   },
 )
 
--- what is delivered leaves its status in r3
-third-delivered : (s : Status) (handle count : ℕ) (machine : Machine) → length machine.registers.gpr ≡ 32 → gpr_of (delivered s handle count machine).after.registers 3 ≡ code_of s
-unfolding delivered answered
-third-delivered s handle count machine all =
+-- what is sent leaves its status in r3
+third-sent : (s : Status) (handle count : ℕ) (machine : Machine) → length machine.registers.gpr ≡ 32 → gpr_of (sending s handle count machine).after.registers 3 ≡ code_of s
+unfolding sending answered advanced
+third-sent s handle count machine all =
     let within : 3 < length (set machine.registers.gpr 4 count) = omega (arith, length-set machine.registers.gpr 4 count) in
     get_or-set_same (set machine.registers.gpr 4 count) 3 (code_of s) 0 within
 
-keeps-delivered : (s : Status) (handle count : ℕ) (machine : Machine) → KeepsMost machine (delivered s handle count machine).after
-unfolding delivered answered
-keeps-delivered s handle count machine = record {
+keeps-sent : (s : Status) (handle count : ℕ) (machine : Machine) → KeepsMost machine (sending s handle count machine).after
+unfolding sending answered advanced
+keeps-sent s handle count machine = record {
   memory = refl;
-  link = refl;
+  steps = refl;
+  faulted = refl;
+  others = refl;
   registers = λ n third fourth. get_or-set_other (set machine.registers.gpr 4 count) 3 n (code_of s) 0 third ∙ get_or-set_other machine.registers.gpr 4 n count 0 fourth;
 }
 
-quiet-try_again : (handle count : ℕ) (machine : Machine) → length machine.registers.gpr ≡ 32 → RefusesQuietly machine (delivered status.TryAgain handle count machine).after
+quiet-try_again : (handle count : ℕ) (machine : Machine) → length machine.registers.gpr ≡ 32 → RefusesQuietly machine (sending status.TryAgain handle count machine).after
 quiet-try_again handle count machine all refusal =
-    (keeps-delivered status.TryAgain handle count machine, λ other. absurd (other (third-delivered status.TryAgain handle count machine all)))
+    (keeps-sent status.TryAgain handle count machine, λ other. absurd (other (third-sent status.TryAgain handle count machine all)))
 
-quiet-success : (handle count : ℕ) (machine : Machine) → length machine.registers.gpr ≡ 32 → RefusesQuietly machine (delivered status.Success handle count machine).after
-quiet-success handle count machine all refusal = absurd (refusal (third-delivered status.Success handle count machine all))
+quiet-success : (handle count : ℕ) (machine : Machine) → length machine.registers.gpr ≡ 32 → RefusesQuietly machine (sending status.Success handle count machine).after
+quiet-success handle count machine all refusal = absurd (refusal (third-sent status.Success handle count machine all))
 
 -- a choice between two steps that do
 quiet-cond : (test : Bool) (one other : Stepped) (machine : Machine) → RefusesQuietly machine one.after → RefusesQuietly machine other.after → RefusesQuietly machine (cond test one other).after
@@ -68,7 +78,48 @@ quiet-served call.ByteChannelSend machine all = quiet-send machine all
 quiet-served call.Unlisted machine all = quiet-refused status.Unimplemented machine
 quiet-served _ machine all = quiet-same machine
 
+-- ---- the step that comes to it
+
+-- a step whose act is built is what was done
+built-act : (act : Act) (done : Stepped) (before : Machine) → (act ≡ Unbuilt → ⊥) → unless_unbuilt act done before ≡ done
+built-act Unbuilt done before h = absurd (h refl)
+built-act _ done before h = refl
+
+unbuilt-act : (act : Act) (done : Stepped) (before : Machine) → act ≡ Unbuilt → (unless_unbuilt act done before).act ≡ Unbuilt
+unbuilt-act Unbuilt done before h = refl
+unbuilt-act _ done before h = absurd (cc)
+
+whole : (machine : Machine) → (step machine).act ≢ Unbuilt → step machine ≡ acted (begun machine)
+unfolding step
+whole machine built = built-act (acted (begun machine)).act (acted (begun machine)) machine (λ e. built (unbuilt-act _ (acted (begun machine)) machine e))
+
+on_false : (b : Bool) (x y : Stepped) → b ≡ false → cond b x y ≡ y
+on_false false x y h = refl
+on_false true x y h = absurd (cc)
+
+instructs : (machine : Machine) → (is_decrementer_pending machine.registers && are_interrupts_enabled machine.registers) ≡ false → machine.registers.idle ≡ false → acted machine ≡ instruction machine
+unfolding acted
+instructs machine undisturbed awake = on_false _ _ _ undisturbed ∙ on_false _ _ _ awake
+
+hypercall : (machine : Machine) → (core.stepped lookup machine.registers machine.memory).answer ≡ core.Hcall
+    → instruction machine ≡ served (call_of (gpr_of machine.registers 11)) machine
+unfolding instruction handled
+hypercall machine e =
+    let done : core.Stepped = core.stepped lookup machine.registers machine.memory in
+    let stays : (done.registers ≡ machine.registers) × (done.memory ≡ machine.memory) =
+    subst (λ a. core.KeepsUnlessDone a machine.registers done.registers machine.memory done.memory) e (kept lookup machine.registers machine.memory) in
+    ap (λ a. handled a (record machine { registers = done.registers; memory = done.memory })) e
+    ∙ ap (λ r. handled core.Hcall (record machine { registers = r; memory = done.memory })) stays.0
+    ∙ ap (λ m. handled core.Hcall (record machine { memory = m })) stays.1
+
+general : (machine : Machine) → (begun machine).registers.gpr ≡ machine.registers.gpr
+unfolding begun
+general machine = ap (λ (r : Registers). r.gpr) (woken_back machine.registers)
+
 pub quiet_refusals : RefusalsAreQuiet
-unfolding step performed
 quiet_refusals machine all next =
-    rw (lt-ltb _ _ next.inside, next.call) (quiet-served _ machine all)
+    let ready : Machine = begun machine in
+    let serves : step machine ≡ served (call_of (gpr_of ready.registers 11)) ready =
+    whole machine next.built ∙ instructs ready next.undisturbed next.awake ∙ hypercall ready next.call in
+    let registers : length ready.registers.gpr ≡ 32 = ap length (general machine) ∙ all in
+    subst (λ (s : Stepped). RefusesQuietly ready s.after) (sym serves) (quiet-served _ ready registers)

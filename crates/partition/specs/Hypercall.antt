@@ -5,7 +5,7 @@ use Rattle.partition.specs.declared.call.Call.{Call}
 use Rattle.partition.specs.declared.call.Call.TheVariants.{ByteChannelSend, ByteChannelReceive, ByteChannelPoll, InterruptSetConfig, InterruptGetConfig, InterruptSetMask, InterruptGetMask, InterruptAcknowledge, InterruptEnd, SetTaskPriority, GetTaskPriority, DoorbellSend, Idle, PartitionRestart, PartitionGetStatus, PartitionStart, PartitionStop, PartitionCopy, Unlisted}
 use Rattle.partition.specs.declared.call.Status.{Status}
 use Rattle.partition.specs.declared.call.Status.TheVariants.{Success, TryAgain, InvalidArgument, Unimplemented}
-use Rattle.partition.specs.Registers.{Registers, gpr_of, with_gpr, advanced}
+use Rattle.guest_regs.specs.Registers.{Registers, gpr_of, with_gpr, advanced}
 
 -- a token and its service
 pub record Listed : Type 0 where

@@ -1,7 +1,6 @@
-pub mod Registers
-pub mod Effects
 pub mod Hypercall
 pub mod Machine
+pub mod Initial
 pub mod Step
 pub mod Event
 pub mod Refusal

@@ -1,6 +1,6 @@
 -- The machine of one partition by itself: no real address, no other partition, no channel's other end.
-use Rattle.std.specs.Prelude.{ℕ, ◌-◌, ◌==◌, Bool, List, [], ◌∷◌, ◌++◌, length, replicate, slice_index_or, slice_set}
-use Rattle.partition.specs.Registers.{Registers, boot_registers}
+use Rattle.std.specs.Prelude.{ℕ, ◌-◌, ◌==◌, Bool, false, List, [], ◌∷◌, ◌++◌, length, replicate, slice_index_or, slice_set}
+use Rattle.guest_regs.specs.Registers.{Registers, boot_registers}
 
 -- the partition's end of what a handle names
 pub record Port : Type 0 where
@@ -8,6 +8,7 @@ pub record Port : Type 0 where
   pub outstanding : ℕ
 
 pub record Machine : Type 0 where
+  -- of its one core, with its reservation and its idle flag
   pub registers : Registers
   -- the bytes of each region, in the order of the partition's description
   pub memory : List (List ℕ)
@@ -15,6 +16,8 @@ pub record Machine : Type 0 where
   pub ports : List Port
   -- how many steps it has done
   pub steps : ℕ
+  -- whether it met a machine check that it couldn't take, and does no further step
+  pub faulted : Bool
 
 -- The built-in partition has one region, of this many bytes from logical address 0, and one handle, 1, a channel.
 abbrev pub memory_size : ℕ
@@ -46,11 +49,12 @@ ports_with machine handle count = slice_set machine.ports (handle - 1) (record (
 unfoldable pub loaded : ℕ → List ℕ → List ℕ
 loaded size image = image ++ replicate (size - length image) 0
 
--- the machine before its first step
+-- the machine before its first step: it starts at 0, and r3 is 0, since it has no device tree
 unfoldable pub boot : List ℕ → Machine
 boot image = record {
-  registers = boot_registers;
+  registers = boot_registers 0 0 0;
   memory = loaded memory_size image ∷ [];
   ports = empty_port ∷ [];
   steps = 0;
+  faulted = false;
 }

@@ -1,20 +1,30 @@
 -- What a hypercall that was not done leaves as it was.
-use Rattle.std.specs.Prelude.{◌≡◌, ◌≢◌, ℕ, ◌<◌, length, slice_index_or, []}
-use Rattle.insn.specs.declared.instruction.Op.TheVariants.{Hypercall}
-use Rattle.insn.specs.Table.{op_of}
-use Rattle.partition.specs.Registers.{gpr_of}
-use Rattle.partition.specs.Machine.{Machine, memory_size}
-use Rattle.partition.specs.Step.{word_at, step}
+use Rattle.std.specs.Prelude.{◌≡◌, ◌≢◌, ℕ, [], false, ◌&&◌, length}
+use Rattle.guest_regs.specs.Registers.{Registers, gpr_of}
+use Rattle.core_step.specs.Step as core
+use Rattle.trap_emulate.specs.Clock.{is_decrementer_pending}
+use Rattle.trap_emulate.specs.Entry.{are_interrupts_enabled}
+use Rattle.partition.specs.Machine.{Machine}
+use Rattle.partition.specs.Initial.{lookup}
+use Rattle.partition.specs.Step.{Unbuilt, begun, step}
 
--- the next instruction is a hypercall
+-- The step comes to a hypercall whose service is built: no interrupt is entered, the core isn't waiting, and a hypercall stands there.
 pub record CallsNext (machine : Machine) : Type 0 where
-  pub inside : machine.registers.pc < memory_size
-  pub call : op_of (word_at (slice_index_or machine.memory 0 []) machine.registers.pc) ≡ Hypercall
+  pub undisturbed : (is_decrementer_pending (begun machine).registers && are_interrupts_enabled (begun machine).registers) ≡ false
+  pub awake : (begun machine).registers.idle ≡ false
+  pub call : (core.stepped lookup (begun machine).registers (begun machine).memory).answer ≡ core.Hcall
+  pub built : (step machine).act ≢ Unbuilt
 
--- the memory, the link register and each general register but r3 and r4 stay
+-- the registers without the general ones and the PC
+abbrev pub other_registers : Registers → Registers
+other_registers registers = record registers { gpr = []; pc = 0 }
+
+-- the memory, the step count, the other registers, and each general register but r3 and r4 stay, and the partition runs on
 pub record KeepsMost (old new : Machine) : Type 0 where
   pub memory : new.memory ≡ old.memory
-  pub link : new.registers.lr ≡ old.registers.lr
+  pub steps : new.steps ≡ old.steps
+  pub faulted : new.faulted ≡ old.faulted
+  pub others : other_registers new.registers ≡ other_registers old.registers
   pub registers : (n : ℕ) → n ≢ 3 → n ≢ 4 → gpr_of new.registers n ≡ gpr_of old.registers n
 
 -- r4 stays too, and so does what is outstanding
@@ -22,12 +32,13 @@ pub record KeepsRest (old new : Machine) : Type 0 where
   pub fourth : gpr_of new.registers 4 ≡ gpr_of old.registers 4
   pub ports : new.ports ≡ old.ports
 
--- Where the status in r3 is not success, r3 alone has changed, besides the PC and the count of steps; where it says that the caller
--- may try again, r4 and what is outstanding have changed too.
+-- Where the status in r3 is not success, r3 alone has changed, besides the PC; where it says that the caller may try again, r4 and
+-- what is outstanding have changed too.
 abbrev pub RefusesQuietly : Machine → Machine → Type 0
 RefusesQuietly old new =
     gpr_of new.registers 3 ≢ 0 → KeepsMost old new × (gpr_of new.registers 3 ≢ 4 → KeepsRest old new)
 
--- so it is of each machine that calls the hypervisor next
+-- So it is of each machine that calls the hypervisor next, whose step has begun: it is counted, and its time has passed.
 abbrev pub RefusalsAreQuiet : Type 0
-RefusalsAreQuiet = (machine : Machine) → length machine.registers.gpr ≡ 32 → CallsNext machine → RefusesQuietly machine (step machine).after
+RefusalsAreQuiet =
+    (machine : Machine) → length machine.registers.gpr ≡ 32 → CallsNext machine → RefusesQuietly (begun machine) (step machine).after

@@ -7,7 +7,9 @@ pub enum LoneStep {
     Quiet,
     /// The partition sent these bytes, at least one, on handle 1.
     Sent(ArrayVec<u8, 16>),
-    /// The machine doesn't know what to do there yet. It has not moved.
+    /// A machine check came with MSR[ME] clear. The partition has stopped.
+    Faulted,
+    /// The machine doesn't know what to do there yet. It is as it was before the step.
     NotBuilt,
 }
 

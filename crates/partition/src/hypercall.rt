@@ -3,12 +3,12 @@
 ghost use Rattle.std.specs.Prelude.{◌≡◌, ℕ, ◌+◌, ◌++◌, take, ◌≤◌};
 ghost use Rattle.std.specs.Int.{w32, to_be_bytes};
 ghost use Rattle.arrayvec.specs.ArrayVec.{array_vec_len};
-ghost use Rattle.partition.specs.Registers.{gpr_of, with_gpr};
+ghost use Rattle.guest_regs.specs.Registers.{gpr_of, with_gpr};
 ghost use Rattle.partition.specs.Hypercall.{call_of, code_of, answered, payload};
 
 use crate::call::{Call, Status};
-use crate::registers::RegisterFile;
 use arrayvec::ArrayVec;
+use guest_regs::Regs;
 
 /// The service that a token asks for.
 #[tactic(auto, unfolding(crate::specs::Hypercall::call_of, crate::specs::Hypercall::services))]
@@ -52,25 +52,25 @@ fn code(status: Status) -> u32
 
 /// Gives the caller its status, and lets it go on after its `sc`.
 #[tactic(auto, unfolding(crate::specs::Hypercall::answered))]
-pub fn answer(registers: &mut RegisterFile, status: Status)
-    ensures { registers.new ≡ answered status registers.old }
+pub fn answer(regs: &mut Regs, status: Status)
+    ensures { regs.new ≡ answered status regs.old }
 {
-    registers.set_gpr(3, code(status));
-    registers.advance();
+    regs.set_gpr(3, code(status));
+    regs.advance();
 }
 
 /// The first bytes of r5 to r8.
 #[tactic(auto, unfolding(crate::specs::Hypercall::payload))]
-pub fn payload_of(registers: &RegisterFile, count: usize) -> ArrayVec<u8, 16>
+pub fn payload_of(regs: &Regs, count: usize) -> ArrayVec<u8, 16>
     requires { count ≤ 16 }
-    ensures bytes { result.items ≡ take count (payload registers.now) }
+    ensures bytes { result.items ≡ take count (payload regs.now) }
     ensures length { array_vec_len result ≡ count }
 {
     let mut bytes = ArrayVec::new();
-    push_word(&mut bytes, registers.gpr(5));
-    push_word(&mut bytes, registers.gpr(6));
-    push_word(&mut bytes, registers.gpr(7));
-    push_word(&mut bytes, registers.gpr(8));
+    push_word(&mut bytes, regs.gpr(5));
+    push_word(&mut bytes, regs.gpr(6));
+    push_word(&mut bytes, regs.gpr(7));
+    push_word(&mut bytes, regs.gpr(8));
     bytes.truncate(count);
     bytes
 }

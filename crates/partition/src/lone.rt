@@ -1,24 +1,32 @@
 //! The built-in machine.
 
-ghost use Rattle.std.specs.Prelude.{◌≡◌, ℕ, ◌+◌, ◌<◌, ◌≤◌, length, IfOk};
-ghost use Rattle.partition.specs.Registers.{gpr_of};
+ghost use Rattle.std.specs.Prelude.{◌≡◌, ℕ, ◌+◌, ◌-◌, ◌<◌, ◌≤◌, false, [], ◌∷◌, length, map, IfOk, IsTrue};
+ghost use Rattle.guest_regs.specs.Registers.{gpr_of};
+ghost use Rattle.core_step.specs.Step as core;
 ghost use Rattle.partition.specs.Hypercall.{call_of};
 ghost use Rattle.partition.specs.Machine.{loaded, boot, port_of};
-ghost use Rattle.partition.specs.Step.{Stepped, Nothing, refused, delivered, send, served, word_at, step};
-ghost use Rattle.partition.specs.Event.{apply, act_of, HasBytes, IsCounted};
+ghost use Rattle.partition.specs.Step.{Stepped, Nothing, quiet, refused, sending, send, served, entered, checked, missed, privileged, handled, instruction, begun, acted, step, store_syndrome, order_syndrome};
+ghost use Rattle.trap_emulate.specs.Entry.{may_enter};
+ghost use Rattle.partition.specs.Event.{apply, act_of, HasBytes, IsCounted, KeepsUnbuilt, TellsFault};
 
 use crate::call::{Call, Status};
-use crate::effects::{execute, is_built};
+use crate::clock::{Clocks, begin};
 use crate::event::{Event, LoneStep};
 use crate::hypercall::{answer, call_of_token, payload_of};
-use crate::registers::RegisterFile;
-use insn::{Op, decode};
+use crate::initial::{Initial, is_translated};
+use core_step::{Core, Hw};
+use ground::Ground;
+use guest_regs::boot;
+use insn::Insn;
 use outside::NoMemory;
 use std::alloc::Global;
 use std::marker::Model;
+use trap_emulate::{
+    Cause, are_interrupts_enabled, deliver, emulate, is_decrementer_pending, is_emulated, may_enter,
+};
 
 /// The bytes of the one private area, from logical address 0.
-const MEMORY_SIZE: usize = 65_536;
+const MEMORY_SIZE: u32 = 65_536;
 
 /// The handle of the one channel.
 const CHANNEL: u32 = 1;
@@ -29,30 +37,38 @@ const CHANNEL_SIZE: u16 = 256;
 /// The most bytes that one hypercall sends.
 const SEND_SIZE: u32 = 16;
 
+/// ST of the ESR: the access was a store.
+const STORE: u32 = 0x0080_0000;
+
+/// BO of the ESR: the page is little-endian.
+const BYTE_ORDER: u32 = 0x0002_0000;
+
 /// The built-in machine alone: one partition with one core, 65,536 bytes of private memory at logical
 /// address 0, and one channel, which is handle 1. Contracts see the record `Machine` of its definition.
-#[derive(Debug, Drop)]
+#[derive(Drop)]
 pub struct Lone {
-    registers: RegisterFile,
-    memory: Vec<u8>,
+    core: Core,
+    memory: Ground,
     outstanding: u16,
     steps: u64,
+    faulted: bool,
 }
 
 impl Model for Lone {
-    ghost use Rattle.std.specs.Prelude.{◌≡◌, ℕ, ◌≤◌, [], ◌∷◌, length};
-    ghost use Rattle.partition.specs.Machine.{Machine, Port};
+    ghost use Rattle.std.specs.Prelude.{◌≡◌, ◌≤◌, [], ◌∷◌, length, map};
+    ghost use Rattle.partition.specs.Machine.{Machine};
 
     ghost Value = { Machine };
 
     ghost view = { λ lone. record {
-      registers = lone.registers;
-      memory = lone.memory.items ∷ [];
+      registers = lone.core;
+      memory = lone.memory;
       ports = record { outstanding = lone.outstanding } ∷ [];
       steps = lone.steps;
+      faulted = lone.faulted;
     } };
 
-    ghost invariant = { λ lone. (length lone.memory.items ≡ 65536) × (lone.outstanding ≤ 256) };
+    ghost invariant = { λ lone. (map length lone.memory ≡ 65536 ∷ []) × (lone.outstanding ≤ 256) };
 }
 
 impl Lone {
@@ -64,12 +80,12 @@ impl Lone {
         ensures fresh { IfOk result (λ machine. machine ≡ boot image.now) }
         ensures uncounted { IfOk result (λ machine. machine.steps ≡ 0) }
     {
-        let memory = load(alloc, MEMORY_SIZE, image)?;
         Ok(Lone {
-            registers: RegisterFile::new(),
-            memory,
+            core: Core::new(boot(0, 0, 0)),
+            memory: load(alloc, MEMORY_SIZE, image)?,
             outstanding: 0,
             steps: 0,
+            faulted: false,
         })
     }
 
@@ -80,32 +96,42 @@ impl Lone {
         self.steps
     }
 
-    /// Does one step: one instruction, or one hypercall.
+    /// Whether it met a machine check with MSR[ME] clear, and does no further step.
+    pub fn faulted(&self) -> bool
+        ensures { result ≡ self.now.faulted }
+    {
+        self.faulted
+    }
+
+    /// The core that does the partition's instructions.
+    pub fn core(&self) -> &Core
+        ensures { result.now ≡ self.now.registers }
+    {
+        &self.core
+    }
+
+    /// Does one step: its time passes, and it enters an interrupt, waits, or does an instruction.
     ///
-    /// `NotBuilt` comes where the program counter is at or past the end of the memory, where the word is
-    /// neither the hypercall nor one of addi, addis, b, ori, oris, xori, xoris, add with OE and Rc clear, and
-    /// or with Rc clear; and where it is the hypercall and its token is that of a service that the machine
-    /// doesn't have yet.
-    #[tactic(auto, unfolding(crate::specs::Step::step, crate::specs::Step::performed))]
+    /// `NotBuilt` comes where an access finds no translation, for tlbwe, tlbre, tlbsx, tlbivax and tlbilx of
+    /// T other than 2 with MSR[PR] clear, and for a hypercall with MSR[PR] clear whose token is that of a
+    /// service that the machine doesn't have yet.
+    #[tactic(auto, using(crate::proofs::Steps::step_unbuilt, crate::proofs::Steps::step_done, crate::proofs::Steps::taken_back))]
     pub fn step(&mut self) -> LoneStep
-        requires { self.old.steps < 1000000000000 }
+        requires running { self.old.faulted ≡ false }
+        requires few { self.old.steps < 1000000000000 }
         ensures stepped { step self.old ≡ record { after = self.new; act = act_of result } }
         ensures bytes { HasBytes result }
         ensures counted { IsCounted result self.old self.new }
+        ensures fault { TellsFault result self.new.faulted }
     {
-        let address = self.registers.pc() as usize;
-        if address >= MEMORY_SIZE {
-            return LoneStep::NotBuilt;
-        }
-        let insn = decode(word_in(&self.memory, address));
-        match insn.op {
-            Op::Hypercall => self.serve(),
-            _ if is_built(insn) => {
-                execute(&mut self.registers, insn);
-                self.steps += 1;
-                LoneStep::Quiet
+        let clocks = Clocks::of(self.core.regs());
+        self.begin();
+        match self.act() {
+            LoneStep::NotBuilt => {
+                self.take_back(clocks);
+                LoneStep::NotBuilt
             }
-            _ => LoneStep::NotBuilt,
+            done => done,
         }
     }
 
@@ -124,16 +150,173 @@ impl Lone {
         }
     }
 
+    /// Counts the step, and lets its time pass.
+    #[tactic(auto, unfolding(crate::specs::Step::begun))]
+    fn begin(&mut self)
+        requires { self.old.steps < 1000000000000 }
+        ensures begun { self.new ≡ begun self.old }
+        ensures steps { self.new.steps ≡ self.old.steps + 1 }
+        ensures fault { self.new.faulted ≡ self.old.faulted }
+    {
+        begin(self.core.regs_mut());
+        self.steps += 1;
+    }
+
+    /// Takes the beginning of a step back.
+    fn take_back(&mut self, clocks: Clocks)
+        requires { 0 < self.old.steps }
+        ensures { self.new ≡ record self.old {
+          registers = record self.old.registers { time = clocks.time; dec = clocks.dec; tsr = clocks.tsr; idle = clocks.idle };
+          steps = self.old.steps - 1;
+        } }
+    {
+        clocks.restore(self.core.regs_mut());
+        self.steps -= 1;
+    }
+
+    /// Does what the step is for, after its time has passed.
+    #[tactic(auto, unfolding(crate::specs::Step::acted))]
+    fn act(&mut self) -> LoneStep
+        requires { self.old.faulted ≡ false }
+        ensures acted { acted self.old ≡ record { after = self.new; act = act_of result } }
+        ensures bytes { HasBytes result }
+        ensures kept { KeepsUnbuilt result self.old self.new }
+        ensures fault { TellsFault result self.new.faulted }
+    {
+        let regs = self.core.regs();
+        if is_decrementer_pending(regs) && are_interrupts_enabled(regs) {
+            return self.enter(Cause::Decrementer);
+        }
+        if regs.idle() {
+            return LoneStep::Quiet;
+        }
+        self.instruct()
+    }
+
+    /// Does an instruction, and what comes of it.
+    #[tactic(auto, using(crate::proofs::Steps::unbuilt_stays, crate::proofs::Backed::pages_backed), unfolding(crate::specs::Step::instruction))]
+    fn instruct(&mut self) -> LoneStep
+        requires { self.old.faulted ≡ false }
+        ensures done { instruction self.old ≡ record { after = self.new; act = act_of result } }
+        ensures bytes { HasBytes result }
+        ensures kept { KeepsUnbuilt result self.old self.new }
+        ensures fault { TellsFault result self.new.faulted }
+    {
+        let answer = self.core.step(&Initial, &mut self.memory);
+        self.handle(answer)
+    }
+
+    /// Does what the core's answer asks for.
+    #[tactic(auto, unfolding(crate::specs::Step::handled))]
+    fn handle(&mut self, answer: Hw) -> LoneStep
+        requires { self.old.faulted ≡ false }
+        ensures handled { handled (core.answered answer) self.old ≡ record { after = self.new; act = act_of result } }
+        ensures bytes { HasBytes result }
+        ensures kept { KeepsUnbuilt result self.old self.new }
+        ensures fault { TellsFault result self.new.faulted }
+    {
+        match answer {
+            Hw::Retired(_) | Hw::Waiting => LoneStep::Quiet,
+            Hw::Sc => self.enter(Cause::Syscall),
+            Hw::Hcall => self.serve(),
+            Hw::Priv(insn) => self.do_privileged(insn),
+            Hw::MissData { ea, .. } => {
+                let space = self.core.regs().data_space();
+                self.miss(space, ea)
+            }
+            Hw::MissInsn { ea } => {
+                let space = self.core.regs().instruction_space();
+                self.miss(space, ea)
+            }
+            Hw::StorageData { ea, store, little } => {
+                let esr = store_syndrome(store) + order_syndrome(little);
+                self.enter(Cause::StorageData { ea, esr })
+            }
+            Hw::StorageInsn { little } => self.enter(Cause::StorageInsn {
+                esr: order_syndrome(little),
+            }),
+            Hw::Align { ea, store } => self.enter(Cause::Align {
+                ea,
+                esr: store_syndrome(store),
+            }),
+            Hw::Program(esr) => self.enter(Cause::Program { esr }),
+            Hw::NoFloat => self.enter(Cause::NoFloat),
+        }
+    }
+
+    /// Enters an interrupt.
+    fn enter(&mut self, cause: Cause) -> LoneStep
+        requires { IsTrue (may_enter cause self.old.registers) }
+        ensures entered { entered cause self.old ≡ record { after = self.new; act = act_of result } }
+        ensures quiet { result ≡ LoneStep.Quiet }
+        ensures steps { self.new.steps ≡ self.old.steps }
+        ensures fault { self.new.faulted ≡ self.old.faulted }
+    {
+        deliver(self.core.regs_mut(), cause);
+        LoneStep::Quiet
+    }
+
+    /// Takes a machine check, or stops the partition where it can't be taken.
+    #[tactic(auto, unfolding(crate::specs::Step::checked))]
+    fn check(&mut self) -> LoneStep
+        requires { self.old.faulted ≡ false }
+        ensures checked { checked self.old ≡ record { after = self.new; act = act_of result } }
+        ensures bytes { HasBytes result }
+        ensures kept { KeepsUnbuilt result self.old self.new }
+        ensures fault { TellsFault result self.new.faulted }
+    {
+        if may_enter(self.core.regs(), Cause::MachineCheck) {
+            self.enter(Cause::MachineCheck)
+        } else {
+            self.faulted = true;
+            LoneStep::Faulted
+        }
+    }
+
+    /// Deals with an access that found no page.
+    #[tactic(auto, unfolding(crate::specs::Step::missed))]
+    fn miss(&mut self, space: bool, ea: u32) -> LoneStep
+        requires { self.old.faulted ≡ false }
+        ensures missed { missed space ea self.old ≡ record { after = self.new; act = act_of result } }
+        ensures bytes { HasBytes result }
+        ensures kept { KeepsUnbuilt result self.old self.new }
+        ensures fault { TellsFault result self.new.faulted }
+    {
+        if is_translated(space, ea) {
+            self.check()
+        } else {
+            LoneStep::NotBuilt
+        }
+    }
+
+    /// Does a privileged instruction for the system.
+    #[tactic(auto, unfolding(crate::specs::Step::privileged))]
+    fn do_privileged(&mut self, insn: Insn) -> LoneStep
+        requires { self.old.faulted ≡ false }
+        ensures done { privileged insn self.old ≡ record { after = self.new; act = act_of result } }
+        ensures bytes { HasBytes result }
+        ensures kept { KeepsUnbuilt result self.old self.new }
+        ensures fault { TellsFault result self.new.faulted }
+    {
+        if is_emulated(insn.op) {
+            emulate(&insn, self.core.regs_mut());
+            LoneStep::Quiet
+        } else {
+            LoneStep::NotBuilt
+        }
+    }
+
     /// Does the hypercall that r11 asks for.
     #[tactic(auto, unfolding(crate::specs::Step::served))]
     fn serve(&mut self) -> LoneStep
-        requires { self.old.steps < 1000000000000 }
-        ensures stepped { let asked = call_of (gpr_of self.old.registers 11) in
+        requires { self.old.faulted ≡ false }
+        ensures served { let asked = call_of (gpr_of self.old.registers 11) in
             served asked self.old ≡ record { after = self.new; act = act_of result } }
         ensures bytes { HasBytes result }
-        ensures counted { IsCounted result self.old self.new }
+        ensures kept { KeepsUnbuilt result self.old self.new }
+        ensures fault { TellsFault result self.new.faulted }
     {
-        match call_of_token(self.registers.gpr(11)) {
+        match call_of_token(self.core.regs().gpr(11)) {
             Call::ByteChannelSend => self.send(),
             Call::Unlisted => self.refuse(Status::Unimplemented),
             _ => LoneStep::NotBuilt,
@@ -143,13 +326,14 @@ impl Lone {
     /// Sends on the channel that r3 names, as many bytes as r4 says or as there is room for.
     #[tactic(auto, unfolding(crate::specs::Step::send))]
     fn send(&mut self) -> LoneStep
-        requires { self.old.steps < 1000000000000 }
-        ensures stepped { send self.old ≡ record { after = self.new; act = act_of result } }
+        requires { self.old.faulted ≡ false }
+        ensures sent { send self.old ≡ record { after = self.new; act = act_of result } }
         ensures bytes { HasBytes result }
-        ensures counted { IsCounted result self.old self.new }
+        ensures kept { KeepsUnbuilt result self.old self.new }
+        ensures fault { TellsFault result self.new.faulted }
     {
-        let handle = self.registers.gpr(3);
-        let count = self.registers.gpr(4);
+        let handle = self.core.regs().gpr(3);
+        let count = self.core.regs().gpr(4);
         if handle != CHANNEL || count > SEND_SIZE {
             return self.refuse(Status::InvalidArgument);
         }
@@ -164,31 +348,30 @@ impl Lone {
     /// Answers a hypercall by its status alone.
     #[tactic(auto, unfolding(crate::specs::Step::refused))]
     fn refuse(&mut self, status: Status) -> LoneStep
-        requires { self.old.steps < 1000000000000 }
-        ensures stepped { refused status self.old ≡ record { after = self.new; act = Nothing } }
+        ensures refused { refused status self.old ≡ record { after = self.new; act = Nothing } }
         ensures quiet { result ≡ LoneStep.Quiet }
-        ensures counted { self.new.steps ≡ self.old.steps + 1 }
+        ensures steps { self.new.steps ≡ self.old.steps }
+        ensures fault { self.new.faulted ≡ self.old.faulted }
     {
-        answer(&mut self.registers, status);
-        self.steps += 1;
+        answer(self.core.regs_mut(), status);
         LoneStep::Quiet
     }
 
     /// Lets the first bytes of the payload out, which the channel has room for.
-    #[tactic(auto, unfolding(crate::specs::Step::delivered))]
+    #[tactic(auto, unfolding(crate::specs::Step::sending))]
     fn deliver(&mut self, status: Status, count: u16) -> LoneStep
-        requires steps { self.old.steps < 1000000000000 }
         requires some { count ≤ 16 }
         requires room { (port_of self.old 1).outstanding + count ≤ 256 }
-        ensures stepped { delivered status 1 count self.old ≡ record { after = self.new; act = act_of result } }
+        requires running { self.old.faulted ≡ false }
+        ensures sent { sending status 1 count self.old ≡ record { after = self.new; act = act_of result } }
         ensures bytes { HasBytes result }
-        ensures counted { IsCounted result self.old self.new }
+        ensures kept { KeepsUnbuilt result self.old self.new }
+        ensures fault { TellsFault result self.new.faulted }
     {
-        let bytes = payload_of(&self.registers, count as usize);
-        self.registers.set_gpr(4, count as u32);
-        answer(&mut self.registers, status);
+        let bytes = payload_of(self.core.regs(), count as usize);
+        self.core.regs_mut().set_gpr(4, count as u32);
+        answer(self.core.regs_mut(), status);
         self.outstanding += count;
-        self.steps += 1;
         if bytes.is_empty() {
             LoneStep::Quiet
         } else {
@@ -197,25 +380,31 @@ impl Lone {
     }
 }
 
-/// The memory of a region of this size, with the image at its start.
-#[tactic(auto, unfolding(crate::specs::Machine::loaded))]
-fn load(alloc: Global, size: usize, image: &[u8]) -> Result<Vec<u8>, NoMemory>
-    requires { length image.now ≤ size }
-    ensures bytes { IfOk result (λ memory. memory.items ≡ loaded size image.now) }
-    ensures size { IfOk result (λ memory. length memory.items ≡ size) }
+/// Real memory of one extent of this size, with the image at its start.
+#[tactic(auto, using(crate::proofs::Loading::one_extent, crate::proofs::Loading::room_for, crate::proofs::Loading::image_loaded, crate::proofs::Loading::loaded_size), unfolding(crate::specs::Machine::loaded))]
+fn load(alloc: Global, size: u32, image: &[u8]) -> Result<Ground, NoMemory>
+    requires fits { length image.now ≤ size }
+    requires small { size ≤ 1073741824 }
+    ensures bytes { IfOk result (λ memory. memory ≡ loaded size image.now ∷ []) }
+    ensures size { IfOk result (λ memory. map length memory ≡ size ∷ []) }
 {
-    let mut memory = Vec::with_capacity(alloc, size)?;
-    memory.extend_from_slice(image)?;
-    memory.resize(size, 0)?;
-    Ok(memory)
+    let mut ground = Ground::new(alloc, &[size])?;
+    ground.put(0, 0, image);
+    Ok(ground)
 }
 
-/// The instruction word at an address of the memory.
-#[tactic(auto, unfolding(crate::specs::Step::word_at))]
-fn word_in(memory: &[u8], address: usize) -> u32
-    requires { address + 4 ≤ length memory.now }
-    ensures { result ≡ word_at memory.now address }
+/// ST of the ESR, for a store.
+fn store_syndrome(store: bool) -> u32
+    ensures value { result ≡ store_syndrome store }
+    ensures bound { result ≤ 0x0080_0000 }
 {
-    let bytes = &memory[address..address + 4];
-    u32::from_be_bytes([bytes[0], bytes[1], bytes[2], bytes[3]])
+    if store { STORE } else { 0 }
+}
+
+/// BO of the ESR, for a little-endian page.
+fn order_syndrome(little: bool) -> u32
+    ensures value { result ≡ order_syndrome little }
+    ensures bound { result ≤ 0x0002_0000 }
+{
+    if little { BYTE_ORDER } else { 0 }
 }

@@ -1,6 +1,7 @@
 -- A run of several turns is its first turn, and then the others.
-use Rattle.std.proofs.Common.{◌≡◌, ℕ, suc, ◌+◌, ◌-◌, ◌<◌, Bool, true, false, List, ◌++◌, refl, sym, ap, ◌∙◌, append_assoc, arith}
-use Rattle.topaz_run.specs.Report.{World, Run, turn, joined, run, end_lines}
+use Rattle.std.proofs.Common.{◌≡◌, ℕ, zero, suc, ◌+◌, ◌-◌, ◌<◌, Bool, true, false, List, ◌++◌, refl, sym, ap, ◌∙◌, append_assoc, if◌then◌else◌, arith}
+use Rattle.partition.specs.Step.{step}
+use Rattle.topaz_run.specs.Report.{World, Turned, Run, turned, passed, turn, joined, run, end_lines}
 
 -- where the first turn's step is built, and where it isn't
 abbrev ran_by : Bool → ℕ → World → Run
@@ -47,3 +48,21 @@ no_turn rest world none = ap (λ n. run n world) none
 pub so_far_whole : (rest : ℕ) (text : List ℕ) (world : World) → rest ≡ 0
     → so_far text rest world ≡ record { is_built = true; text = text ++ end_lines world }
 so_far_whole rest text world none = ap (joined text) (no_turn rest world none)
+
+-- a partition that has stopped lets every turn pass
+stopped_turn : (world : World) → world.machine.faulted ≡ true → turn world ≡ passed world
+unfolding turn
+stopped_turn world h = ap (λ b. if b then passed world else turned world (step world.machine).after (step world.machine).act) h
+
+stopped_first : (rest : ℕ) (world : World) → world.machine.faulted ≡ true → run (suc rest) world ≡ run rest world
+stopped_first rest world h =
+    first_turn rest world ∙ (ap (λ b. ran_by b rest world) (ap (λ (t : Turned). t.is_built) (stopped_turn world h))
+    ∙ (ap (λ (t : Turned). joined t.line (run rest t.after)) (stopped_turn world h)))
+
+stopped : (rest : ℕ) (world : World) → world.machine.faulted ≡ true → run rest world ≡ record { is_built = true; text = end_lines world }
+stopped zero world h = no_turn 0 world refl
+stopped (suc rest) world h = stopped_first rest world h ∙ stopped rest world h
+
+pub so_far_stopped : (rest : ℕ) (text : List ℕ) (world : World) → world.machine.faulted ≡ true
+    → so_far text rest world ≡ record { is_built = true; text = text ++ end_lines world }
+so_far_stopped rest text world h = ap (joined text) (stopped rest world h)

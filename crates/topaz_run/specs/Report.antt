@@ -1,10 +1,10 @@
 -- The run of the built-in machine, turn by turn, and what is written of it.
-use Rattle.std.specs.Prelude.{ℕ, zero, suc, ◌+◌, Bool, true, false, List, [], ◌++◌, length, codes}
+use Rattle.std.specs.Prelude.{ℕ, zero, suc, ◌+◌, Bool, true, false, List, [], ◌++◌, length, codes, if◌then◌else◌}
 use Rattle.partition.specs.declared.event.Event.TheVariants.{Room}
 use Rattle.partition.specs.Machine.{Machine, boot}
-use Rattle.partition.specs.Step.{Act, Nothing, Sends, Unbuilt, step}
+use Rattle.partition.specs.Step.{Act, Nothing, Sends, Faults, Unbuilt, step}
 use Rattle.partition.specs.Event.{apply}
-use Rattle.topaz_run.specs.Text.{sent_line, running_line, console_line, refused_line, step_place}
+use Rattle.topaz_run.specs.Text.{sent_line, faulted_line, state_word, end_line, console_line, refused_line, step_place}
 
 -- the partition and the console that its handle 1 leads to
 pub record World : Type 0 where
@@ -36,19 +36,28 @@ turned world stepped (Sends handle bytes) = record {
   line = sent_line guest stepped.steps handle bytes;
   is_built = true;
 }
+turned world stepped Faults = record {
+  after = record world { machine = stepped };
+  line = faulted_line guest stepped.steps;
+  is_built = true;
+}
 turned world stepped Unbuilt = record {
   after = world;
   line = refused_line (codes "N1") (step_place (world.machine.steps + 1));
   is_built = false;
 }
 
--- one turn: the partition's one core does a step
+-- a turn of a partition that doesn't run passes
+abbrev pub passed : World → Turned
+passed world = record { after = world; line = []; is_built = true }
+
+-- one turn: the partition's one core does a step, where the partition runs
 unfoldable pub turn : World → Turned
-turn world = let stepped = step world.machine in turned world stepped.after stepped.act
+turn world = if world.machine.faulted then passed world else let stepped = step world.machine in turned world stepped.after stepped.act
 
 -- the lines after the last turn; nothing enters the console, so nothing waits there
 abbrev pub end_lines : World → List ℕ
-end_lines world = running_line guest world.machine.steps ++ console_line con world.printed 0 0
+end_lines world = end_line guest (state_word world.machine.faulted) world.machine.steps ++ console_line con world.printed 0 0
 
 -- all that is written of a run, and whether each of its steps is built
 pub record Run : Type 0 where

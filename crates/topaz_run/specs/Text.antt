@@ -1,5 +1,5 @@
 -- The lines that are written. Each ends with one line feed.
-use Rattle.std.specs.Prelude.{ℕ, List, ◌++◌, codes, decimal}
+use Rattle.std.specs.Prelude.{ℕ, Bool, List, ◌++◌, codes, decimal, if◌then◌else◌}
 use Rattle.hex.specs.Hex.{encode_lower}
 
 -- at its own step, the partition sent these bytes on that handle
@@ -7,9 +7,17 @@ abbrev pub sent_line : List ℕ → ℕ → ℕ → List ℕ → List ℕ
 sent_line name step handle bytes =
     name ++ (codes " " ++ (decimal step ++ (codes " sent " ++ (decimal handle ++ (codes " " ++ (encode_lower bytes ++ codes "\n"))))))
 
--- a running partition after so many own steps
-abbrev pub running_line : List ℕ → ℕ → List ℕ
-running_line name steps = codes "end " ++ (name ++ (codes " running " ++ (decimal steps ++ codes "\n")))
+-- at its own step, the partition met a machine check that it couldn't take, and stopped
+abbrev pub faulted_line : List ℕ → ℕ → List ℕ
+faulted_line name step = name ++ (codes " " ++ (decimal step ++ codes " faulted\n"))
+
+-- whether a partition runs at the end
+abbrev pub state_word : Bool → List ℕ
+state_word faulted = if faulted then codes "faulted" else codes "running"
+
+-- a partition in its state after so many own steps
+abbrev pub end_line : List ℕ → List ℕ → ℕ → List ℕ
+end_line name state steps = codes "end " ++ (name ++ (codes " " ++ (state ++ (codes " " ++ (decimal steps ++ codes "\n")))))
 
 -- of a console: the bytes printed, the bytes entered and the bytes waiting
 abbrev pub console_line : List ℕ → ℕ → ℕ → ℕ → List ℕ

@@ -16,6 +16,9 @@ pub fn run(alloc: Global, image: &[u8], turns: u64) -> Result<Report, NoMemory>
     let mut world = World::new(alloc, image)?;
     let mut text = String::new(alloc);
     for _turn in 0..turns {
+        if world.has_stopped() {
+            break;
+        }
         if !world.turn(alloc, &mut text)? {
             return Ok(Report {
                 is_built: false,

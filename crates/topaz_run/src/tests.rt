@@ -45,6 +45,36 @@ const UNLISTED: [u32; 9] = [
     0x4800_0000,
 ];
 
+// Divides 7 by 0, and sends the quotient.
+const DIVISION: [u32; 9] = [
+    0x3D60_0001,
+    0x616B_0001,
+    0x3860_0001,
+    0x3880_0004,
+    0x38A0_0007,
+    0x38C0_0000,
+    0x7CA5_33D6,
+    0x4400_0022,
+    0x4800_0000,
+];
+
+// Sends the time base, which it reads in its fifth step.
+const CLOCK: [u32; 7] = [
+    0x3D60_0001,
+    0x616B_0001,
+    0x3860_0001,
+    0x3880_0004,
+    0x7CAC_42E6,
+    0x4400_0022,
+    0x4800_0000,
+];
+
+// Loads from behind the memory.
+const UNBACKED: [u32; 2] = [0x3C60_0001, 0x8083_0000];
+
+// Asks how many bytes wait, which no service tells yet.
+const POLL: [u32; 3] = [0x3D60_0001, 0x616B_0003, 0x4400_0022];
+
 // Lists of words that are of no form, with bars between the words.
 const OUT_OF_FORM: [&str; 24] = [
     "dtb",
@@ -140,16 +170,47 @@ fn images_write_what_was_worked_out(rt: HostRuntime) -> Result<(), Fail> {
             "guest 8 sent 1 0000000c\nend guest running 9\nconsole con 4 0 0\n",
         ),
         (
+            DIVISION.as_slice(),
+            "9",
+            Status::Ok,
+            "guest 8 sent 1 00000000\nend guest running 9\nconsole con 4 0 0\n",
+        ),
+        (
+            CLOCK.as_slice(),
+            "7",
+            Status::Ok,
+            "guest 6 sent 1 00000005\nend guest running 7\nconsole con 4 0 0\n",
+        ),
+        // a word that is no instruction goes round through the handler at 0
+        (
             [0u32].as_slice(),
             "3",
+            Status::Ok,
+            "end guest running 3\nconsole con 0 0 0\n",
+        ),
+        (
+            UNBACKED.as_slice(),
+            "5",
+            Status::Ok,
+            "guest 2 faulted\nend guest faulted 2\nconsole con 0 0 0\n",
+        ),
+        (
+            UNBACKED.as_slice(),
+            "1000000000000",
+            Status::Ok,
+            "guest 2 faulted\nend guest faulted 2\nconsole con 0 0 0\n",
+        ),
+        (
+            POLL.as_slice(),
+            "9",
             Status::Refused,
-            "refused N1 at step 1\n",
+            "refused N1 at step 3\n",
         ),
         (
             [].as_slice(),
-            "0",
+            "3",
             Status::Ok,
-            "end guest running 0\nconsole con 0 0 0\n",
+            "end guest running 3\nconsole con 0 0 0\n",
         ),
     ] {
         let mut files = files_with(alloc, image_of(alloc, image)?, 0)?;
@@ -169,7 +230,11 @@ fn images_write_what_was_worked_out(rt: HostRuntime) -> Result<(), Fail> {
 fn long_images_are_refused_at_their_word(rt: HostRuntime) -> Result<(), Fail> {
     let alloc = rt.alloc();
     for (length, status, text) in [
-        (65_536, Status::Refused, "refused N1 at step 1\n"),
+        (
+            65_536,
+            Status::Ok,
+            "end guest running 1\nconsole con 0 0 0\n",
+        ),
         (65_537, Status::Refused, "refused I4 at image\n"),
         (67_108_864, Status::Refused, "refused I4 at image\n"),
         (67_108_865, Status::Refused, "refused F1 at image\n"),
@@ -266,7 +331,10 @@ fn an_unknown_image_is_surely_empty(rt: HostRuntime) -> Result<(), Fail> {
     let mut files = SureFiles::new(Vec::new(alloc));
     let mut out = MemSink::new(alloc, 100, Vec::new(alloc))?;
     let words = words_of(alloc, &["bare", "image", "3"])?;
-    assert_eq!(rt; topaz(alloc, &words, &mut files, &mut out), Status::Refused);
-    assert_eq!(rt; out.bytes(), b"refused N1 at step 1\n".as_slice());
+    assert_eq!(rt; topaz(alloc, &words, &mut files, &mut out), Status::Ok);
+    assert_eq!(rt;
+        out.bytes(),
+        b"end guest running 3\nconsole con 0 0 0\n".as_slice()
+    );
     Ok(())
 }

@@ -1,6 +1,6 @@
 ghost use Rattle.std.specs.Prelude.{◌≡◌, ◌++◌, OnOk, codes, string_bytes};
 ghost use Rattle.topaz_run.specs.Outcome.{blob_rule};
-ghost use Rattle.topaz_run.specs.Text.{sent_line, running_line, console_line, refused_line, step_place};
+ghost use Rattle.topaz_run.specs.Text.{sent_line, faulted_line, state_word, end_line, console_line, refused_line, step_place};
 
 use outside::NoMemory;
 use std::alloc::Global;
@@ -21,11 +21,26 @@ pub fn push_sent(
     Ok(())
 }
 
-// Appends that the partition runs after so many own steps.
-pub fn push_running(text: &mut String, name: &str, steps: u64) -> Result<(), NoMemory>
-    ensures { OnOk result (string_bytes text.new ≡ string_bytes text.old ++ running_line name.now steps) }
+// Appends that the partition met a machine check that it couldn't take, at its own step.
+pub fn push_faulted(text: &mut String, name: &str, step: u64) -> Result<(), NoMemory>
+    ensures { OnOk result (string_bytes text.new ≡ string_bytes text.old ++ faulted_line name.now step) }
 {
-    writeln!(text, "end {name} running {steps}")?;
+    writeln!(text, "{name} {step} faulted")?;
+    Ok(())
+}
+
+// The word for whether a partition runs.
+pub fn state_name(faulted: bool) -> &'static str
+    ensures { result.now ≡ state_word faulted }
+{
+    if faulted { "faulted" } else { "running" }
+}
+
+// Appends the state of the partition after so many own steps.
+pub fn push_end(text: &mut String, name: &str, state: &str, steps: u64) -> Result<(), NoMemory>
+    ensures { OnOk result (string_bytes text.new ≡ string_bytes text.old ++ end_line name.now state.now steps) }
+{
+    writeln!(text, "end {name} {state} {steps}")?;
     Ok(())
 }
 

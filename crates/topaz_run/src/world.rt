@@ -1,7 +1,7 @@
 ghost use Rattle.std.specs.Prelude.{◌≡◌, ℕ, ◌<◌, ◌≤◌, ◌+◌, ◌++◌, IsTrue, OnOk, IfOk, length, string_bytes};
 ghost use Rattle.topaz_run.specs.Report.{turn, end_lines, fresh};
 
-use crate::text::{push_console, push_not_built, push_running, push_sent};
+use crate::text::{push_console, push_end, push_faulted, push_not_built, push_sent, state_name};
 use outside::NoMemory;
 use partition::{Event, Lone, LoneStep};
 use std::alloc::Global;
@@ -46,6 +46,13 @@ impl World {
         })
     }
 
+    // Whether the partition has stopped, so that every further turn passes.
+    pub fn has_stopped(&self) -> bool
+        ensures { result ≡ self.now.machine.faulted }
+    {
+        self.machine.faulted()
+    }
+
     // Does a turn, appends its line, and says whether its step is built.
     #[tactic(auto, unfolding(crate::specs::Report::turn))]
     pub fn turn(&mut self, alloc: Global, text: &mut String) -> Result<bool, NoMemory>
@@ -53,8 +60,11 @@ impl World {
         ensures built { IfOk result (λ built. built ≡ (turn self.old).is_built) }
         ensures after { OnOk result (self.new ≡ (turn self.old).after) }
         ensures line { OnOk result (string_bytes text.new ≡ string_bytes text.old ++ (turn self.old).line) }
-        ensures counted { IfOk result (λ built. IsTrue built → self.new.machine.steps ≡ self.old.machine.steps + 1) }
+        ensures counted { IfOk result (λ built. IsTrue built → self.new.machine.steps ≤ self.old.machine.steps + 1) }
     {
+        if self.machine.faulted() {
+            return Ok(true);
+        }
         match self.machine.step() {
             LoneStep::Quiet => Ok(true),
             LoneStep::Sent(bytes) => {
@@ -74,6 +84,10 @@ impl World {
                 });
                 Ok(true)
             }
+            LoneStep::Faulted => {
+                push_faulted(text, GUEST, self.machine.steps())?;
+                Ok(true)
+            }
             LoneStep::NotBuilt => {
                 push_not_built(text, self.machine.steps() + 1)?;
                 Ok(false)
@@ -85,7 +99,12 @@ impl World {
     pub fn push_end(&self, text: &mut String) -> Result<(), NoMemory>
         ensures { OnOk result (string_bytes text.new ≡ string_bytes text.old ++ end_lines self.now) }
     {
-        push_running(text, GUEST, self.machine.steps())?;
+        push_end(
+            text,
+            GUEST,
+            state_name(self.machine.faulted()),
+            self.machine.steps(),
+        )?;
         push_console(text, CON, self.printed, 0, 0)
     }
 }

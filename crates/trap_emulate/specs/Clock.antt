@@ -1,11 +1,15 @@
 -- The timers of a core as one step passes (Power ISA 2.06, Book III-E, chapter 9). A step is the unit of time.
-use Rattle.std.specs.Prelude.{ℕ, ◌+◌, ◌-◌, ◌%◌, ◌^◌, ◌==◌, bit_or, if◌then◌else◌}
+use Rattle.std.specs.Prelude.{ℕ, ◌+◌, ◌-◌, ◌%◌, ◌^◌, ◌==◌, Bool, ◌&&◌, bit_or, if◌then◌else◌}
 use Rattle.guest_regs.specs.Registers.{Registers}
 use Rattle.trap_emulate.specs.State.{is_set}
 
 -- DIS of the timer status register: the decrementer has expired.
 abbrev pub decrementer_status : ℕ
 decrementer_status = 2 ^ 27
+
+-- DIE of the timer control register: the decrementer's interrupt is enabled.
+abbrev pub decrementer_enable : ℕ
+decrementer_enable = 2 ^ 26
 
 -- ARE of the timer control register: the decrementer is reloaded when it expires.
 abbrev pub auto_reload : ℕ
@@ -28,6 +32,10 @@ decremented registers =
     if registers.dec == 0 then registers
     else if registers.dec == 1 then expired registers
     else record registers { dec = registers.dec - 1 }
+
+-- The decrementer has expired, and its interrupt is enabled. MSR[EE] has no part in it.
+abbrev pub is_decrementer_pending : Registers → Bool
+is_decrementer_pending registers = is_set decrementer_status registers.tsr && is_set decrementer_enable registers.tcr
 
 -- one step's time
 unfoldable pub ticked : Registers → Registers

@@ -3,7 +3,7 @@ use Rattle.std.specs.Prelude.{ℕ, ◌+◌, ◌*◌, ◌/◌, ◌%◌, ◌^◌, 
 use Rattle.guest_regs.specs.Registers.{Registers, machine_state}
 use Rattle.trap_emulate.specs.declared.cause.Cause.{Cause}
 use Rattle.trap_emulate.specs.declared.cause.Cause.TheVariants.{MachineCheck, StorageData, StorageInsn, External, Align, Program, NoFloat, Syscall, Decrementer}
-use Rattle.trap_emulate.specs.State.{critical_enable, machine_check_enable, is_set}
+use Rattle.trap_emulate.specs.State.{critical_enable, external_enable, machine_check_enable, is_set}
 
 -- The address of a kind's handler: 16 bits of IVPR, 12 bits of the kind's IVOR, and four zeros.
 abbrev pub handler : ℕ → Registers → ℕ
@@ -49,6 +49,10 @@ delivered (Program syndrome) registers = interrupted 6 registers.pc (explained s
 delivered NoFloat registers = interrupted 7 registers.pc registers
 delivered Syscall registers = interrupted 8 (next_instruction registers) registers
 delivered Decrementer registers = interrupted 10 registers.pc registers
+
+-- External and decrementer interrupts are entered only where EE is set.
+abbrev pub are_interrupts_enabled : Registers → Bool
+are_interrupts_enabled registers = is_set external_enable registers.msr
 
 -- A machine check is entered only where ME is set, and every other cause always.
 abbrev pub may_enter : Cause → Registers → Bool

@@ -1,10 +1,10 @@
 -- The privileged instructions that translations have no part in (Power ISA 2.06, Book III-E, chapters 4 and 5).
-use Rattle.std.specs.Prelude.{ℕ, ◌+◌, ◌%◌, ◌^◌, ◌==◌, Bool, true, false, bit_and, bit_or, if◌then◌else◌}
+use Rattle.std.specs.Prelude.{ℕ, ◌==◌, Bool, true, false, bit_and, bit_or, if◌then◌else◌}
 use Rattle.std.specs.Int.{w32, bit_not}
 use Rattle.insn.specs.declared.instruction.Op.{Op}
 use Rattle.insn.specs.declared.instruction.Op.TheVariants as op
 use Rattle.insn.specs.Fields.{rt_field, enable_bit}
-use Rattle.guest_regs.specs.Registers.{Registers, gpr_of, with_gpr, instruction_address, machine_state}
+use Rattle.guest_regs.specs.Registers.{Registers, gpr_of, with_gpr, instruction_address, advanced, machine_state}
 use Rattle.trap_emulate.specs.State.{external_enable, is_set}
 
 -- the instructions that are done here
@@ -20,10 +20,6 @@ is_emulated op.Tlbsync = true
 is_emulated op.Dcbi = true
 is_emulated _ = false
 
--- on to the next instruction
-unfoldable pub advanced : Registers → Registers
-advanced registers = record registers { pc = instruction_address ((registers.pc + 4) % 2 ^ 32) }
-
 -- back to an address and a machine state that an interrupt saved
 unfoldable pub returned : ℕ → ℕ → Registers → Registers
 returned address state registers = record registers { pc = instruction_address address; msr = machine_state state }
@@ -38,8 +34,8 @@ with_external_enable on registers = record registers {
 abbrev pub named : ℕ → Registers → ℕ
 named word registers = gpr_of registers (rt_field word)
 
--- Returns take SRR0 and SRR1, or their like for critical interrupts and machine checks. tlbsync and dcbi only go on, and no
--- other instruction comes here.
+-- Returns take SRR0 and SRR1, or their like for critical interrupts and machine checks. tlbsync and dcbi only go on. What
+-- another instruction does isn't said here.
 unfoldable pub emulated : Op → ℕ → Registers → Registers
 emulated op.Rfi word registers = returned registers.srr0 registers.srr1 registers
 emulated op.Rfci word registers = returned registers.csrr0 registers.csrr1 registers

@@ -1,9 +1,9 @@
 //! The timers of a core.
 
 ghost use Rattle.std.specs.Prelude.{◌≡◌, ℕ};
-ghost use Rattle.trap_emulate.specs.Clock.{expired, ticked};
+ghost use Rattle.trap_emulate.specs.Clock.{expired, is_decrementer_pending, ticked};
 
-use crate::state::{AUTO_RELOAD, DECREMENTER_STATUS, has};
+use crate::state::{AUTO_RELOAD, DECREMENTER_ENABLE, DECREMENTER_STATUS, has};
 use guest_regs::Regs;
 
 /// Lets one step's time pass: the time base counts it, and the decrementer falls (Power ISA 2.06, Book III-E, chapter 9).
@@ -17,6 +17,14 @@ pub fn tick(regs: &mut Regs)
         1 => expire(regs),
         left => regs.set_dec(left - 1),
     }
+}
+
+/// Whether the decrementer has expired and TCR[DIE] asks for its interrupt, which is entered once MSR[EE] lets it (Power
+/// ISA 2.06, Book III-E, chapter 9).
+pub fn is_decrementer_pending(regs: &Regs) -> bool
+    ensures { result ≡ is_decrementer_pending regs.now }
+{
+    has(regs.tsr(), DECREMENTER_STATUS) && has(regs.tcr(), DECREMENTER_ENABLE)
 }
 
 /// The decrementer reaches its end: it tells so, and begins again where that is asked for.

@@ -1,11 +1,18 @@
 //! The entry of interrupts.
 
 ghost use Rattle.std.specs.Prelude.{◌≡◌, ℕ, ◌<◌, ◌%◌, IsTrue};
-ghost use Rattle.trap_emulate.specs.Entry.{delivered, handler, interrupted, checked, may_enter};
+ghost use Rattle.trap_emulate.specs.Entry.{delivered, handler, interrupted, checked, are_interrupts_enabled, may_enter};
 
 use crate::cause::Cause;
-use crate::state::{CRITICAL_ENABLE, MACHINE_CHECK_ENABLE, has};
+use crate::state::{CRITICAL_ENABLE, EXTERNAL_ENABLE, MACHINE_CHECK_ENABLE, has};
 use guest_regs::Regs;
+
+/// Whether MSR[EE] lets external and decrementer interrupts be entered.
+pub fn are_interrupts_enabled(regs: &Regs) -> bool
+    ensures { result ≡ are_interrupts_enabled regs.now }
+{
+    has(regs.msr(), EXTERNAL_ENABLE)
+}
 
 /// Whether a core can enter the interrupt of a cause: a machine check needs MSR[ME], and nothing else needs anything.
 pub fn may_enter(regs: &Regs, cause: Cause) -> bool

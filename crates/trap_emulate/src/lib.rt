@@ -15,11 +15,10 @@ mod privileged;
 mod state;
 
 pub use cause::Cause;
-pub use clock::tick;
-pub use entry::{deliver, may_enter};
+pub use clock::{is_decrementer_pending, tick};
+pub use entry::{are_interrupts_enabled, deliver, may_enter};
 pub use laws::{clocks_keep_time, returns_go_back};
 pub use privileged::{emulate, is_emulated};
-pub use state::is_user;
 
 #[cfg(test)]
 mod tests;

@@ -1,8 +1,7 @@
 //! The privileged instructions that translations have no part in.
 
-ghost use Rattle.std.specs.Prelude.{◌≡◌, ℕ, IsTrue, not};
-ghost use Rattle.guest_regs.specs.Registers.{in_problem_state};
-ghost use Rattle.trap_emulate.specs.Privileged.{emulated, is_emulated, returned, advanced, with_external_enable};
+ghost use Rattle.std.specs.Prelude.{◌≡◌, ℕ};
+ghost use Rattle.trap_emulate.specs.Privileged.{emulated, is_emulated, returned, with_external_enable};
 
 use crate::state::{EXTERNAL_ENABLE, has};
 use guest_regs::Regs;
@@ -26,15 +25,13 @@ pub fn is_emulated(op: Op) -> bool
     )
 }
 
-/// Does a privileged instruction for the system, which `is_emulated` lists and `is_user` keeps from user programs: the
+/// Does a privileged instruction for the system, which `is_emulated` lists and `Regs::is_user` keeps from user programs: the
 /// returns from interrupts, `mfmsr`, `mtmsr`, `wrtee` and `wrteei` (Power ISA 2.06, Book III-E, chapters 4 and 5), and
 /// `tlbsync` and `dcbi`, which have no effect here but to go on.
 ///
-/// `insn` is what `insn::decode` gives of its word.
+/// `insn` is what `insn::decode` gives of its word. Another instruction leaves the registers as they are.
 #[tactic(auto, unfolding(crate::specs::Privileged::emulated))]
 pub fn emulate(insn: &Insn, regs: &mut Regs)
-    requires row { IsTrue (is_emulated insn.now.op) }
-    requires system { IsTrue (not (in_problem_state regs.old)) }
     ensures { regs.new ≡ emulated insn.now.op insn.now.word regs.old }
 {
     let register = insn.rt() as u8;
@@ -44,22 +41,22 @@ pub fn emulate(insn: &Insn, regs: &mut Regs)
         Op::Rfmci => return_to(regs, regs.mcsrr0(), regs.mcsrr1()),
         Op::Mfmsr => {
             regs.set_gpr(register, regs.msr());
-            advance(regs);
+            regs.advance();
         }
         Op::Mtmsr => {
             regs.set_msr(regs.gpr(register));
-            advance(regs);
+            regs.advance();
         }
         Op::Wrtee => {
             enable_external(regs, has(regs.gpr(register), EXTERNAL_ENABLE));
-            advance(regs);
+            regs.advance();
         }
         Op::Wrteei => {
             enable_external(regs, insn.is_enabling());
-            advance(regs);
+            regs.advance();
         }
-        Op::Tlbsync | Op::Dcbi => advance(regs),
-        _ => unreachable!(),
+        Op::Tlbsync | Op::Dcbi => regs.advance(),
+        _ => {}
     }
 }
 
@@ -83,12 +80,4 @@ fn enable_external(regs: &mut Regs, on: bool)
     } else {
         state & !EXTERNAL_ENABLE
     });
-}
-
-/// On to the next instruction.
-#[tactic(auto, unfolding(crate::specs::Privileged::advanced))]
-fn advance(regs: &mut Regs)
-    ensures { regs.new ≡ advanced regs.old }
-{
-    regs.set_pc(regs.pc().wrapping_add(4));
 }

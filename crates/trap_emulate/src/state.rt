@@ -1,10 +1,7 @@
 //! The bits of the machine state and of the timers' registers that are looked at here.
 
 ghost use Rattle.std.specs.Prelude.{◌≡◌, ℕ, ◌<◌};
-ghost use Rattle.guest_regs.specs.Registers.{in_problem_state};
 ghost use Rattle.trap_emulate.specs.State.{is_set};
-
-use guest_regs::Regs;
 
 /// CE of the MSR: critical interrupts are enabled.
 pub const CRITICAL_ENABLE: u32 = 0x0002_0000;
@@ -12,14 +9,14 @@ pub const CRITICAL_ENABLE: u32 = 0x0002_0000;
 /// EE of the MSR: external and decrementer interrupts are enabled.
 pub const EXTERNAL_ENABLE: u32 = 0x0000_8000;
 
-/// PR of the MSR: user programs run.
-const PROBLEM_STATE: u32 = 0x0000_4000;
-
 /// ME of the MSR: machine checks are enabled.
 pub const MACHINE_CHECK_ENABLE: u32 = 0x0000_1000;
 
 /// DIS of the TSR: the decrementer has expired.
 pub const DECREMENTER_STATUS: u32 = 0x0800_0000;
+
+/// DIE of the TCR: the decrementer's interrupt is enabled.
+pub const DECREMENTER_ENABLE: u32 = 0x0400_0000;
 
 /// ARE of the TCR: the decrementer is reloaded when it expires.
 pub const AUTO_RELOAD: u32 = 0x0040_0000;
@@ -30,11 +27,4 @@ pub fn has(value: u32, bit: u32) -> bool
     ensures { result ≡ is_set bit value }
 {
     value / bit % 2 == 1
-}
-
-/// Whether MSR[PR] is set: a user program runs, and has no privileged instructions (Power ISA 2.06, Book III-E, chapter 4).
-pub fn is_user(regs: &Regs) -> bool
-    ensures { result ≡ in_problem_state regs.now }
-{
-    has(regs.msr(), PROBLEM_STATE)
 }

@@ -173,7 +173,7 @@ fn core_at(pc: u32, state: u32) -> Regs {
 /// Does the instruction of a word where the system runs and the instruction is done here.
 fn emulates(word: u32, regs: &mut Regs) -> bool {
     let insn = decode(word);
-    if is_user(regs) || !is_emulated(insn.op) {
+    if regs.is_user() || !is_emulated(insn.op) {
         return false;
     }
     emulate(&insn, regs);

@@ -1,0 +1,4 @@
+pub mod Covered
+pub mod Sizes
+pub mod Stay
+pub mod Unchanged

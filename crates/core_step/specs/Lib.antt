@@ -1,0 +1,4 @@
+pub mod Pages
+pub mod Access
+pub mod Step
+pub mod Lending

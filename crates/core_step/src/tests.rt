@@ -1,0 +1,288 @@
+//! What no clause says: that instructions whose effect was worked out by hand do what they should, over
+//! one page of 4 KiB.
+
+ghost use Rattle.std.specs.Prelude.{◌≡◌, ◌∷◌, [], IfOk, length, map};
+
+use super::{Core, Hw, Look, Page, Wrote};
+use ground::Ground;
+use guest_regs::{Regs, boot};
+use outside::NoMemory;
+use std::alloc::Global;
+use std::test::Fail;
+
+// The page at 0x1000, of logical address 0x5000, with these permissions.
+#[derive(Drop)]
+struct OnePage {
+    perms: u16,
+    little: bool,
+}
+
+impl Look for OnePage {
+    ghost use Rattle.std.specs.Prelude.{not, ◌&&◌, nat_le, nat_lt, None, Some, if◌then◌else◌};
+
+    ghost lookup = { λ look space pid ea. if not space && (nat_le 4096 ea && nat_lt ea 8192)
+        then Some (record { ea = 4096; tsize = 1; perms = look.perms; little = look.little; extent = 0; at = 0; logical = 20480 })
+        else None };
+
+    fn hit(&self, ts: bool, _pid: u16, ea: u32) -> Option<Page> {
+        if !ts && 0x1000 <= ea && ea < 0x2000 {
+            Some(Page {
+                ea: 0x1000,
+                tsize: 1,
+                perms: self.perms,
+                little: self.little,
+                extent: 0,
+                at: 0,
+                logical: 0x5000,
+            })
+        } else {
+            None
+        }
+    }
+}
+
+// All permissions of the system, and of user programs.
+const SYSTEM: u16 = 0x15;
+
+const USER: u16 = 0x2A;
+
+// One extent of 4 KiB whose first word is an instruction.
+#[tactic(auto, using(crate::proofs::Stay::first_page, crate::proofs::Stay::same_sizes))]
+fn memory(alloc: Global, word: u32) -> Result<Ground, NoMemory>
+    ensures { IfOk result (λ memory. map length memory ≡ 4096 ∷ []) }
+{
+    let mut ground = Ground::new(alloc, &[0x1000])?;
+    ground.store32(0, 0, word);
+    Ok(ground)
+}
+
+// A core at the page's first byte, with (r3) and (r4).
+fn core(msr: u32, r3: u32, r4: u32) -> Core {
+    let mut regs = boot(0x1000, 0, 0);
+    regs.set_msr(msr);
+    regs.set_gpr(3, r3);
+    regs.set_gpr(4, r4);
+    Core::new(regs)
+}
+
+// What one instruction answers, and the core and the memory after it.
+fn run(
+    alloc: Global,
+    look: &OnePage,
+    word: u32,
+    msr: u32,
+    r3: u32,
+    r4: u32,
+) -> Result<(Hw, Core, Ground), NoMemory>
+    ensures { IfOk result (λ done. map length done.2 ≡ 4096 ∷ []) }
+{
+    let mut ground = memory(alloc, word)?;
+    let mut core = core(msr, r3, r4);
+    let answer = step(look, &mut core, &mut ground);
+    Ok((answer, core, ground))
+}
+
+// One instruction over the page.
+fn step(look: &OnePage, core: &mut Core, ground: &mut Ground) -> Hw
+    requires { map length ground.old ≡ 4096 ∷ [] }
+    ensures { map length ground.new ≡ 4096 ∷ [] }
+{
+    core.step(look, ground)
+}
+
+const PROBLEM: u32 = 0x4000;
+
+#[test]
+#[tactic(auto, using(crate::proofs::Stay::first_page))]
+fn instructions_that_are_not_done(rt: HostRuntime) -> Result<(), Fail> {
+    let alloc = rt.alloc();
+    let all = SYSTEM | USER;
+    for (word, perms, little, msr, r3, answer) in [
+        // stw r4,0(r3) past the end: its first byte there
+        (
+            0x9083_0000,
+            all,
+            false,
+            0,
+            0x1FFE,
+            "MissData { ea: 8192, store: true }",
+        ),
+        (
+            0x8083_0000,
+            all,
+            false,
+            0,
+            0x0FFE,
+            "MissData { ea: 4094, store: false }",
+        ),
+        (
+            0x9083_0000,
+            0x11,
+            false,
+            0,
+            0x1100,
+            "StorageData { ea: 4352, store: true, little: false }",
+        ),
+        (
+            0x8083_0000,
+            0x14,
+            false,
+            0,
+            0x1100,
+            "StorageData { ea: 4352, store: false, little: false }",
+        ),
+        (
+            0x8083_0000,
+            SYSTEM,
+            false,
+            PROBLEM,
+            0x1100,
+            "StorageInsn { little: false }",
+        ),
+        (
+            0x8083_0000,
+            all,
+            true,
+            0,
+            0x1100,
+            "StorageInsn { little: true }",
+        ),
+        // lmw r30,0(r3) and lwarx
+        (
+            0xBBC3_0000,
+            all,
+            false,
+            0,
+            0x1102,
+            "Align { ea: 4354, store: false }",
+        ),
+        (
+            0x7C80_1828,
+            all,
+            false,
+            0,
+            0x1102,
+            "Align { ea: 4354, store: false }",
+        ),
+        (0x4400_0002, all, false, 0, 0, "Sc"),
+        (0x4400_0022, all, false, 0, 0, "Hcall"),
+        (0x0000_0000, all, false, 0, 0, "Program(134217728)"),
+        // tw always
+        (0x7FE0_0008, all, false, 0, 0, "Program(33554432)"),
+        (0xC803_0000, all, false, 0, 0, "NoFloat"),
+    ] {
+        let look = OnePage { perms, little };
+        let (hw, core, ground) = run(alloc, &look, word, msr, r3, 0x1234_5678)?;
+        let text = format!(in alloc; "{hw:?}")?;
+        assert_eq!(rt; text.as_str(), answer, "{word:x}");
+        assert_eq!(rt; core.regs().pc(), 0x1000, "{word:x}");
+        assert_eq!(rt; ground.load32(0, 0), word, "{word:x}");
+        assert_eq!(rt; ground.load32(0, 0xFFC), 0, "{word:x}");
+    }
+    Ok(())
+}
+
+// What user programs may not do: returns, the machine state, translations, dcbi, a special register of the
+// system, and hypercalls.
+const PRIVILEGED: [u32; 17] = [
+    0x4C00_0064, // rfi
+    0x4C00_0066, // rfci
+    0x4C00_004C, // rfmci
+    0x7C60_00A6, // mfmsr r3
+    0x7C60_0124, // mtmsr r3
+    0x7C60_0106, // wrtee r3
+    0x7C00_8146, // wrteei 1
+    0x7C00_0024, // tlbilx 0,0,0
+    0x7C40_0024, // tlbilx 2,0,0
+    0x7C00_1E24, // tlbivax 0,r3
+    0x7C00_1F24, // tlbsx 0,r3
+    0x7C00_0764, // tlbre
+    0x7C00_07A4, // tlbwe
+    0x7C00_046C, // tlbsync
+    0x7C00_1BAC, // dcbi 0,r3
+    0x7C7A_02A6, // mfspr r3,SRR0
+    0x4400_0022, // sc 1
+];
+
+#[test]
+fn users_are_refused_what_is_privileged(rt: HostRuntime) -> Result<(), Fail> {
+    let alloc = rt.alloc();
+    let look = OnePage {
+        perms: USER,
+        little: false,
+    };
+    for &word in PRIVILEGED.iter() {
+        let (hw, core, _ground) = run(alloc, &look, word, PROBLEM, 0x1100, 0)?;
+        let text = format!(in alloc; "{hw:?}")?;
+        assert_eq!(rt; text.as_str(), "Program(67108864)", "{word:x}");
+        assert_eq!(rt;
+            (core.regs().pc(), core.regs().gpr(3)),
+            (0x1000, 0x1100),
+            "{word:x}"
+        );
+    }
+    Ok(())
+}
+
+#[test]
+#[tactic(auto, using(crate::proofs::Stay::first_page))]
+fn stores_and_reservations(rt: HostRuntime) -> Result<(), Fail> {
+    let alloc = rt.alloc();
+    let look = OnePage {
+        perms: SYSTEM,
+        little: false,
+    };
+    // stwu r4,0x7FD(r3) at no multiple of 4: one range, and the address goes to r3
+    let (hw, core, ground) = run(alloc, &look, 0x9483_07FD, 0, 0x1001, 0x1234_5678)?;
+    let Hw::Retired(ranges) = hw else {
+        return Err(Fail::from("not retired"));
+    };
+    assert_eq!(rt;
+        ranges.as_slice(),
+        [Wrote {
+            extent: 0,
+            at: 0x7FE,
+            len: 4
+        }]
+        .as_slice()
+    );
+    assert_eq!(rt; (core.regs().gpr(3), core.regs().pc()), (0x17FE, 0x1004));
+    assert_eq!(rt;
+        (ground.load32(0, 0x7FE), ground.load16(0, 0x7FC)),
+        (0x1234_5678, 0)
+    );
+    // stwcx. r4,0,r3 with its block reserved, with another, and with none
+    for (reserved, cr, word) in [
+        (Some(0x5040), 0x2000_0000, 0x1234_5678),
+        (Some(0x5080), 0, 0),
+        (None, 0, 0),
+    ] {
+        let mut ground = memory(alloc, 0x7C80_192D)?;
+        let mut core = core_with(reserved);
+        let hw = step(&look, &mut core, &mut ground);
+        let Hw::Retired(ranges) = hw else {
+            return Err(Fail::from("not retired"));
+        };
+        assert_eq!(rt; ranges.len(), if reserved == Some(0x5040) { 1 } else { 0 });
+        assert_eq!(rt; (core.regs().cr(), core.regs().reserved()), (cr, None));
+        assert_eq!(rt; ground.load32(0, 0x44), word);
+    }
+    // lwarx r4,0,r3 keeps the block of the logical address
+    let (hw, core, _ground) = run(alloc, &look, 0x7C80_1828, 0, 0x1044, 0)?;
+    assert!(rt; matches!(hw, Hw::Retired(_)));
+    assert_eq!(rt; core.regs().reserved(), Some(0x5040));
+    // wait
+    let (hw, core, _ground) = run(alloc, &look, 0x7C00_007C, 0, 0, 0)?;
+    assert!(rt; matches!(hw, Hw::Waiting));
+    assert_eq!(rt; (core.regs().idle(), core.regs().pc()), (true, 0x1004));
+    Ok(())
+}
+
+// A core about to store under this reservation.
+fn core_with(reserved: Option<u64>) -> Core {
+    let mut regs = boot(0x1000, 0, 0);
+    regs.set_gpr(3, 0x1044);
+    regs.set_gpr(4, 0x1234_5678);
+    regs.set_reserved(reserved);
+    Core::new(regs)
+}
