@@ -1,5 +1,4 @@
-ghost use Rattle.std.specs.Prelude.{◌≡◌, ◌<◌, ℕ, List, IfOk, if◌then◌else◌};
-ghost use Rattle.ground.specs.Extents.{number_at};
+ghost use Rattle.std.specs.Prelude.{◌≡◌, ◌<◌, ℕ, IfOk, if◌then◌else◌};
 ghost use Rattle.guest_regs.specs.Registers.{in_problem_state, instruction_space};
 ghost use Rattle.core_step.specs.Pages.{AreBacked};
 ghost use Rattle.core_step.specs.Access as access;

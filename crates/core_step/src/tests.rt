@@ -147,6 +147,31 @@ fn instructions_that_are_not_done(rt: HostRuntime) -> Result<(), Fail> {
             0x1100,
             "StorageInsn { little: true }",
         ),
+        // UX alone, then UX and UR, and UX and UW
+        (
+            0x8083_0000,
+            0x20,
+            false,
+            PROBLEM,
+            0x1100,
+            "StorageData { ea: 4352, store: false, little: false }",
+        ),
+        (
+            0x9083_0000,
+            0x22,
+            false,
+            PROBLEM,
+            0x1100,
+            "StorageData { ea: 4352, store: true, little: false }",
+        ),
+        (
+            0x8083_0000,
+            0x28,
+            false,
+            PROBLEM,
+            0x1100,
+            "StorageData { ea: 4352, store: false, little: false }",
+        ),
         // lmw r30,0(r3) and lwarx
         (
             0xBBC3_0000,

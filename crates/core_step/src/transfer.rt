@@ -1,4 +1,4 @@
-ghost use Rattle.std.specs.Prelude.{◌≡◌, ◌<◌, ◌≤◌, ℕ, List, true, false, length};
+ghost use Rattle.std.specs.Prelude.{◌≡◌, ◌<◌, ℕ, true, false, length};
 ghost use Rattle.insn_alu.specs.declared.effect.Effect.TheVariants.{Memory};
 ghost use Rattle.insn_alu.specs.Transfers.{transfer_of, transfer_effect, stored_by};
 ghost use Rattle.core_step.specs.Pages.{AreBacked};

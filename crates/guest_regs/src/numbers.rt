@@ -1,7 +1,7 @@
 //! Special registers by their numbers.
 
 ghost use Rattle.std.specs.Prelude.{◌≡◌, ℕ};
-ghost use Rattle.guest_regs.specs.Special.{special_of, special_among, numbers, IsInRun, special_value, other_value, special_written, other_written, is_privileged, is_listed, is_user_writable, spr_read, spr_write, Written, KeepsUnlessDone};
+ghost use Rattle.guest_regs.specs.Special.{special_of, special_among, numbers, IsInRun, special_value, other_value, special_written, other_written, is_privileged, is_user_writable, spr_read, spr_write, KeepsUnlessDone};
 
 use crate::answer::{ReadAnswer, WriteAnswer};
 use crate::registers::Regs;

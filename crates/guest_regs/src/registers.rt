@@ -1,7 +1,7 @@
 //! The registers of a core, and those that have a reader and a writer by name.
 
-ghost use Rattle.std.specs.Prelude.{◌≡◌, ℕ, ◌<◌, ◌%◌, ◌^◌, length, slice_index, slice_set, bit_and, bit_or};
-ghost use Rattle.guest_regs.specs.Registers.{Registers, gpr_of, with_gpr, instruction_address, advanced, machine_state, in_problem_state, instruction_space, data_space, version, first_tlb_shape, second_tlb_shape, ivor_bits, boot_registers, xer_bits, pid_bits, ivpr_bits, mas7_bits, l1csr0_bits, l1csr1_bits, bucsr_bits};
+ghost use Rattle.std.specs.Prelude.{◌≡◌, ℕ, ◌<◌, ◌%◌, ◌^◌, length, slice_index, slice_set, bit_and};
+ghost use Rattle.guest_regs.specs.Registers.{Registers, instruction_address, advanced, machine_state, in_problem_state, instruction_space, data_space, version, first_tlb_shape, second_tlb_shape, ivor_bits, boot_registers, xer_bits, pid_bits, ivpr_bits, mas7_bits, l1csr0_bits, l1csr1_bits, bucsr_bits};
 
 use std::marker::Model;
 

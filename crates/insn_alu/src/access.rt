@@ -1,11 +1,8 @@
 //! The access of a load or store, and what completes it.
 
-ghost use Rattle.std.specs.Prelude.{◌≡◌, ℕ, ◌<◌, ◌≤◌, ◌*◌, ◌-◌, ◌+◌, ◌%◌, ◌^◌, ◌++◌, length, true, false, slice_index, drop};
-ghost use Rattle.std.specs.List.{flat_map};
+ghost use Rattle.std.specs.Prelude.{◌≡◌, ℕ, ◌<◌, ◌≤◌, ◌*◌, ◌-◌, ◌+◌, ◌%◌, ◌++◌, length, true, false};
 ghost use Rattle.std.specs.Int.{w16, w32, from_be_bytes, from_le_bytes, to_be_bytes, to_le_bytes};
 ghost use Rattle.arrayvec.specs.ArrayVec.{array_vec_len};
-ghost use Rattle.insn.specs.Fields.{rt_field};
-ghost use Rattle.guest_regs.specs.Registers.{with_gpr};
 ghost use Rattle.insn_alu.specs.Completion.{TellsWhether, Finishes};
 ghost use Rattle.insn_alu.specs.Transfers.{transfer_of, effective, size_of, form_of, accessed, updated, loaded, filled, told, finished, stored_bytes, transfer_effect, IsFinishedBy, finished_by, IsStore, stored_by};
 

@@ -1,6 +1,6 @@
 //! Branches, the condition register, and selection.
 
-ghost use Rattle.std.specs.Prelude.{◌≡◌, ℕ, ◌<◌, ◌≤◌, ◌^◌, ◌*◌, ◌/◌, ◌%◌, ◌+◌, ℤ};
+ghost use Rattle.std.specs.Prelude.{◌≡◌, ℕ, ◌<◌, ◌≤◌, ◌*◌, ◌/◌, ◌%◌, ◌+◌};
 ghost use Rattle.insn_alu.specs.Rows.{comparison_row, selected, same, condition_met, counts, counted, count_met, linked, branched, target_of, branch_row, conditional_row, count_register_row, condition_row, first_bit, second_bit, field_row, chosen_field, chosen_fields, fields_row};
 
 use crate::fields::{

@@ -1,8 +1,7 @@
 //! The condition register, XER, and how an instruction ends.
 
-ghost use Rattle.std.specs.Prelude.{◌≡◌, ℕ, ◌<◌, ◌≤◌, ◌^◌, ◌*◌, ◌/◌, ◌%◌, ◌+◌, pos};
-ghost use Rattle.guest_regs.specs.Registers.{Registers, gpr_of, with_gpr};
-ghost use Rattle.insn_alu.specs.Fields.{replaced, field_place, condition_field, with_field, condition_bit, with_bit, with_xer, summary, carry, with_carry, with_overflow, with_condition, recorded, gone_to, a_of, b_of, s_of, base_of, extended_immediate, upper, result_in, result_recorded, result_in_form, arithmetic};
+ghost use Rattle.std.specs.Prelude.{◌≡◌, ℕ, ◌<◌, ◌≤◌, ◌^◌, ◌*◌, ◌/◌, ◌%◌, ◌+◌};
+ghost use Rattle.insn_alu.specs.Fields.{replaced, condition_field, with_field, condition_bit, with_bit, summary, carry, with_carry, with_overflow, with_condition, recorded, a_of, b_of, s_of, base_of, extended_immediate, upper, result_in, result_recorded, result_in_form, arithmetic};
 
 use crate::numbers::{order_signed, power};
 use guest_regs::Regs;

@@ -1,7 +1,7 @@
 //! Results over 32 bits.
 
 ghost use Rattle.std.specs.Prelude.{◌≡◌, ℕ, ◌<◌, ◌≤◌, ◌^◌, ◌*◌, ◌/◌, ◌%◌, ◌+◌, ◌==◌, ◌&&◌, ◌*ℤ◌, ◌+ℤ◌, pos};
-ghost use Rattle.insn_alu.specs.Numbers.{signed_value, complement, overflows, compared, mask, inserted, rotated, shifted_left, shifted_right, is_negative, shifted_algebraic, algebraic_carry, extended_byte, extended_half, high_product, high_signed_product, has_no_quotient, signed_quotient, unsigned_quotient, traps};
+ghost use Rattle.insn_alu.specs.Numbers.{signed_value, overflows, compared, mask, inserted, shifted_left, shifted_right, shifted_algebraic, algebraic_carry, extended_byte, extended_half, high_product, high_signed_product, has_no_quotient, signed_quotient, unsigned_quotient, traps};
 
 /// A power of two.
 #[tactic(auto, using(crate::proofs::Powers::power_fits))]

@@ -1,6 +1,6 @@
 //! Rows that several arithmetic and shift instructions share.
 
-ghost use Rattle.std.specs.Prelude.{◌≡◌, ℕ, ◌<◌, ◌≤◌, ◌^◌, ◌*◌, ◌/◌, ◌%◌, ◌+◌};
+ghost use Rattle.std.specs.Prelude.{◌≡◌, ℕ, ◌<◌, ◌^◌, ◌/◌, ◌%◌, ◌+◌};
 ghost use Rattle.insn_alu.specs.Rows.{sum_row, carrying_row, carrying_in, carrying_recorded, rotation_row, insertion_row, algebraic_row};
 
 use crate::fields::{a_of, s_of, set_arithmetic, set_carry, set_in_form, set_recorded, set_result};

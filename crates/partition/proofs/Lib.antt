@@ -2,3 +2,4 @@ pub mod Loading
 pub mod Backed
 pub mod Steps
 pub mod Refusals
+pub mod Reached

@@ -10,7 +10,7 @@ use Rattle.partition.specs.declared.call.Status.{Status}
 use Rattle.partition.specs.declared.call.Status.TheVariants as status
 use Rattle.partition.specs.Hypercall.{answered, code_of, call_of}
 use Rattle.partition.specs.Machine.{Machine}
-use Rattle.partition.specs.Initial.{lookup}
+use Rattle.partition.specs.Translated.{lookup}
 use Rattle.partition.specs.Step.{Stepped, Act, Unbuilt, refused, sending, send, served, handled, instruction, acted, begun, unless_unbuilt, step}
 use Rattle.core_step.proofs.Unchanged.{kept}
 use Rattle.partition.proofs.Steps.{woken_back}
@@ -19,13 +19,15 @@ use Rattle.partition.specs.Refusal.{KeepsMost, RefusesQuietly, RefusalsAreQuiet}
 -- nothing has changed
 quiet-same : (machine : Machine) → RefusesQuietly machine machine
 quiet-same machine refusal =
-    (record { memory = refl; steps = refl; faulted = refl; others = refl; registers = λ n _ _. refl }, λ _. record { fourth = refl; ports = refl })
+    (record { memory = refl; translations = refl; next_victim = refl; steps = refl; faulted = refl; others = refl; registers = λ n _ _. refl }, λ _. record { fourth = refl; ports = refl })
 
 quiet-refused : (s : Status) (machine : Machine) → RefusesQuietly machine (refused s machine).after
 unfolding refused answered advanced
 quiet-refused s machine refusal = (
   record {
     memory = refl;
+    translations = refl;
+    next_victim = refl;
     steps = refl;
     faulted = refl;
     others = refl;
@@ -48,6 +50,8 @@ keeps-sent : (s : Status) (handle count : ℕ) (machine : Machine) → KeepsMost
 unfolding sending answered advanced
 keeps-sent s handle count machine = record {
   memory = refl;
+  translations = refl;
+  next_victim = refl;
   steps = refl;
   faulted = refl;
   others = refl;
@@ -101,13 +105,13 @@ instructs : (machine : Machine) → (is_decrementer_pending machine.registers &&
 unfolding acted
 instructs machine undisturbed awake = on_false _ _ _ undisturbed ∙ on_false _ _ _ awake
 
-hypercall : (machine : Machine) → (core.stepped lookup machine.registers machine.memory).answer ≡ core.Hcall
+hypercall : (machine : Machine) → (core.stepped (lookup machine.translations) machine.registers machine.memory).answer ≡ core.Hcall
     → instruction machine ≡ served (call_of (gpr_of machine.registers 11)) machine
 unfolding instruction handled
 hypercall machine e =
-    let done : core.Stepped = core.stepped lookup machine.registers machine.memory in
+    let done : core.Stepped = core.stepped (lookup machine.translations) machine.registers machine.memory in
     let stays : (done.registers ≡ machine.registers) × (done.memory ≡ machine.memory) =
-    subst (λ a. core.KeepsUnlessDone a machine.registers done.registers machine.memory done.memory) e (kept lookup machine.registers machine.memory) in
+    subst (λ a. core.KeepsUnlessDone a machine.registers done.registers machine.memory done.memory) e (kept (lookup machine.translations) machine.registers machine.memory) in
     ap (λ a. handled a (record machine { registers = done.registers; memory = done.memory })) e
     ∙ ap (λ r. handled core.Hcall (record machine { registers = r; memory = done.memory })) stays.0
     ∙ ap (λ m. handled core.Hcall (record machine { memory = m })) stays.1

@@ -1,6 +1,7 @@
 pub mod Hypercall
 pub mod Machine
-pub mod Initial
+pub mod Translated
 pub mod Step
 pub mod Event
 pub mod Refusal
+pub mod Reached

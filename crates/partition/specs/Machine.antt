@@ -1,6 +1,8 @@
 -- The machine of one partition by itself: no real address, no other partition, no channel's other end.
 use Rattle.std.specs.Prelude.{ℕ, ◌-◌, ◌==◌, Bool, false, List, [], ◌∷◌, ◌++◌, length, replicate, slice_index_or, slice_set}
 use Rattle.guest_regs.specs.Registers.{Registers, boot_registers}
+use Rattle.mas.specs.declared.entry.Entry.{Entry}
+use Rattle.guest_tlb.specs.Slots.{initial_slots}
 
 -- the partition's end of what a handle names
 pub record Port : Type 0 where
@@ -10,6 +12,10 @@ pub record Port : Type 0 where
 pub record Machine : Type 0 where
   -- of its one core, with its reservation and its idle flag
   pub registers : Registers
+  -- the slots of its two TLBs
+  pub translations : List Entry
+  -- the way of TLB0 that its next miss is to replace
+  pub next_victim : ℕ
   -- the bytes of each region, in the order of the partition's description
   pub memory : List (List ℕ)
   -- by handle, from 1
@@ -49,10 +55,12 @@ ports_with machine handle count = slice_set machine.ports (handle - 1) (record (
 unfoldable pub loaded : ℕ → List ℕ → List ℕ
 loaded size image = image ++ replicate (size - length image) 0
 
--- the machine before its first step: it starts at 0, and r3 is 0, since it has no device tree
+-- the machine before its first step: it starts at 0, and r3 is 0, since it has no device tree; the initial area alone is translated
 unfoldable pub boot : List ℕ → Machine
 boot image = record {
   registers = boot_registers 0 0 0;
+  translations = initial_slots;
+  next_victim = 0;
   memory = loaded memory_size image ∷ [];
   ports = empty_port ∷ [];
   steps = 0;

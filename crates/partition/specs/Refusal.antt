@@ -5,23 +5,25 @@ use Rattle.core_step.specs.Step as core
 use Rattle.trap_emulate.specs.Clock.{is_decrementer_pending}
 use Rattle.trap_emulate.specs.Entry.{are_interrupts_enabled}
 use Rattle.partition.specs.Machine.{Machine}
-use Rattle.partition.specs.Initial.{lookup}
+use Rattle.partition.specs.Translated.{lookup}
 use Rattle.partition.specs.Step.{Unbuilt, begun, step}
 
 -- The step comes to a hypercall whose service is built: no interrupt is entered, the core isn't waiting, and a hypercall stands there.
 pub record CallsNext (machine : Machine) : Type 0 where
   pub undisturbed : (is_decrementer_pending (begun machine).registers && are_interrupts_enabled (begun machine).registers) ≡ false
   pub awake : (begun machine).registers.idle ≡ false
-  pub call : (core.stepped lookup (begun machine).registers (begun machine).memory).answer ≡ core.Hcall
+  pub call : (core.stepped (lookup (begun machine).translations) (begun machine).registers (begun machine).memory).answer ≡ core.Hcall
   pub built : (step machine).act ≢ Unbuilt
 
 -- the registers without the general ones and the PC
 abbrev pub other_registers : Registers → Registers
 other_registers registers = record registers { gpr = []; pc = 0 }
 
--- the memory, the step count, the other registers, and each general register but r3 and r4 stay, and the partition runs on
+-- the memory, the translations, the step count, the other registers, and each general register but r3 and r4 stay, and the partition runs on
 pub record KeepsMost (old new : Machine) : Type 0 where
   pub memory : new.memory ≡ old.memory
+  pub translations : new.translations ≡ old.translations
+  pub next_victim : new.next_victim ≡ old.next_victim
   pub steps : new.steps ≡ old.steps
   pub faulted : new.faulted ≡ old.faulted
   pub others : other_registers new.registers ≡ other_registers old.registers

@@ -6,15 +6,16 @@ use Rattle.core_step.specs.Step as core
 use Rattle.trap_emulate.specs.declared.cause.Cause.{Cause}
 use Rattle.trap_emulate.specs.declared.cause.Cause.TheVariants as cause
 use Rattle.trap_emulate.specs.Clock.{is_decrementer_pending, ticked}
-use Rattle.trap_emulate.specs.Entry.{are_interrupts_enabled, delivered, may_enter}
-use Rattle.trap_emulate.specs.Privileged.{emulated, is_emulated}
+use Rattle.trap_emulate.specs.Entry.{are_interrupts_enabled, delivered, may_enter, store_syndrome}
+use Rattle.trap_emulate.specs.Tlb.{Emulated}
+use Rattle.trap_emulate.specs.Privileged.{emulated}
 use Rattle.partition.specs.declared.call.Call.{Call}
 use Rattle.partition.specs.declared.call.Call.TheVariants as call
 use Rattle.partition.specs.declared.call.Status.{Status}
 use Rattle.partition.specs.declared.call.Status.TheVariants.{Success, TryAgain, InvalidArgument, Unimplemented}
 use Rattle.partition.specs.Hypercall.{call_of, answered, payload}
 use Rattle.partition.specs.Machine.{Machine, is_channel, port_of, room, ports_with}
-use Rattle.partition.specs.Initial.{lookup, is_translated}
+use Rattle.partition.specs.Translated.{lookup, is_translated}
 
 -- what a step did that others see
 pub data Act : Type 0 where
@@ -82,7 +83,7 @@ served _ machine = not_built machine
 
 -- the entry of an interrupt
 abbrev pub entered : Cause → Machine → Stepped
-entered cause machine = quiet (with_registers (delivered cause machine.registers) machine)
+entered cause machine = quiet (with_registers (delivered machine.next_victim cause machine.registers) machine)
 
 -- A machine check is entered where MSR[ME] is set. Where it is clear the partition stops, and its registers stay as they are.
 unfoldable pub checked : Machine → Stepped
@@ -90,24 +91,23 @@ checked machine =
     if may_enter cause.MachineCheck machine.registers then entered cause.MachineCheck machine
     else record { after = record machine { faulted = true }; act = Faults }
 
--- An access without a page: where a translation matches there is no memory behind it, which is a machine check. Where none matches
--- nothing is built yet.
-unfoldable pub missed : Bool → ℕ → Machine → Stepped
-missed space ea machine = if is_translated space ea then checked machine else not_built machine
+-- An access that finds no memory: where a translation matches it is a machine check, and where none does a TLB error, which is the
+-- cause.
+unfoldable pub missed : Cause → Bool → ℕ → Machine → Stepped
+missed cause space ea machine =
+    if is_translated machine.translations space machine.registers.pid ea then checked machine else entered cause machine
 
--- ST and BO of the exception syndrome register (Power ISA 2.06, Book III-E, chapter 7): a store, and a little-endian page
-abbrev pub store_syndrome : Bool → ℕ
-store_syndrome store = if store then 2 ^ 23 else 0
-
+-- BO of the exception syndrome register (Power ISA 2.06, Book III-E, chapter 7): the page is little-endian
 abbrev pub order_syndrome : Bool → ℕ
 order_syndrome little = if little then 2 ^ 17 else 0
 
 -- ---- the instruction
 
--- The privileged instructions, but those on translations, which aren't built yet.
+-- a privileged instruction of the system
 unfoldable pub privileged : Insn → Machine → Stepped
 privileged insn machine =
-    if is_emulated insn.op then quiet (with_registers (emulated insn.op insn.word machine.registers) machine) else not_built machine
+    let done : Emulated = emulated insn.op insn.word machine.registers machine.translations machine.next_victim in
+    quiet (record machine { registers = done.registers; translations = done.slots; next_victim = done.nv })
 
 -- what comes of the core's answer, in the machine as the core left it
 unfoldable pub handled : core.Answer → Machine → Stepped
@@ -116,8 +116,8 @@ handled core.Waiting machine = quiet machine
 handled core.Sc machine = entered cause.Syscall machine
 handled core.Hcall machine = served (call_of (gpr_of machine.registers 11)) machine
 handled (core.Priv insn) machine = privileged insn machine
-handled (core.MissData ea store) machine = missed (data_space machine.registers) ea machine
-handled (core.MissInsn ea) machine = missed (instruction_space machine.registers) ea machine
+handled (core.MissData ea store) machine = missed (cause.MissData ea store) (data_space machine.registers) ea machine
+handled (core.MissInsn ea) machine = missed (cause.MissInsn ea) (instruction_space machine.registers) ea machine
 handled (core.StorageData ea store little) machine =
     entered (cause.StorageData ea (store_syndrome store + order_syndrome little)) machine
 handled (core.StorageInsn little) machine = entered (cause.StorageInsn (order_syndrome little)) machine
@@ -128,7 +128,7 @@ handled core.NoFloat machine = entered cause.NoFloat machine
 -- one instruction, and what comes of it
 unfoldable pub instruction : Machine → Stepped
 instruction machine =
-    let done : core.Stepped = core.stepped lookup machine.registers machine.memory in
+    let done : core.Stepped = core.stepped (lookup machine.translations) machine.registers machine.memory in
     handled done.answer (record machine { registers = done.registers; memory = done.memory })
 
 -- ---- the step

@@ -3,7 +3,6 @@
 ghost use Rattle.std.specs.Prelude.{◌≡◌, ℕ, ◌+◌, ◌++◌, take, ◌≤◌};
 ghost use Rattle.std.specs.Int.{w32, to_be_bytes};
 ghost use Rattle.arrayvec.specs.ArrayVec.{array_vec_len};
-ghost use Rattle.guest_regs.specs.Registers.{gpr_of, with_gpr};
 ghost use Rattle.partition.specs.Hypercall.{call_of, code_of, answered, payload};
 
 use crate::call::{Call, Status};

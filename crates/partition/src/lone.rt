@@ -5,7 +5,7 @@ ghost use Rattle.guest_regs.specs.Registers.{gpr_of};
 ghost use Rattle.core_step.specs.Step as core;
 ghost use Rattle.partition.specs.Hypercall.{call_of};
 ghost use Rattle.partition.specs.Machine.{loaded, boot, port_of};
-ghost use Rattle.partition.specs.Step.{Stepped, Nothing, quiet, refused, sending, send, served, entered, checked, missed, privileged, handled, instruction, begun, acted, step, store_syndrome, order_syndrome};
+ghost use Rattle.partition.specs.Step.{Nothing, quiet, refused, sending, send, served, entered, checked, missed, privileged, handled, instruction, begun, acted, step, order_syndrome};
 ghost use Rattle.trap_emulate.specs.Entry.{may_enter};
 ghost use Rattle.partition.specs.Event.{apply, act_of, HasBytes, IsCounted, KeepsUnbuilt, TellsFault};
 
@@ -13,16 +13,18 @@ use crate::call::{Call, Status};
 use crate::clock::{Clocks, begin};
 use crate::event::{Event, LoneStep};
 use crate::hypercall::{answer, call_of_token, payload_of};
-use crate::initial::{Initial, is_translated};
+use crate::translations::Translations;
 use core_step::{Core, Hw};
 use ground::Ground;
 use guest_regs::boot;
+use guest_tlb::GuestTlb;
 use insn::Insn;
 use outside::NoMemory;
 use std::alloc::Global;
 use std::marker::Model;
 use trap_emulate::{
-    Cause, are_interrupts_enabled, deliver, emulate, is_decrementer_pending, is_emulated, may_enter,
+    Cause, Mmu, are_interrupts_enabled, deliver, emulate, is_decrementer_pending, may_enter,
+    store_syndrome,
 };
 
 /// The bytes of the one private area, from logical address 0.
@@ -37,9 +39,6 @@ const CHANNEL_SIZE: u16 = 256;
 /// The most bytes that one hypercall sends.
 const SEND_SIZE: u32 = 16;
 
-/// ST of the ESR: the access was a store.
-const STORE: u32 = 0x0080_0000;
-
 /// BO of the ESR: the page is little-endian.
 const BYTE_ORDER: u32 = 0x0002_0000;
 
@@ -48,6 +47,7 @@ const BYTE_ORDER: u32 = 0x0002_0000;
 #[derive(Drop)]
 pub struct Lone {
     core: Core,
+    translations: Translations,
     memory: Ground,
     outstanding: u16,
     steps: u64,
@@ -62,6 +62,8 @@ impl Model for Lone {
 
     ghost view = { λ lone. record {
       registers = lone.core;
+      translations = lone.translations.mmu.tlb;
+      next_victim = lone.translations.mmu.nv;
       memory = lone.memory;
       ports = record { outstanding = lone.outstanding } ∷ [];
       steps = lone.steps;
@@ -82,6 +84,12 @@ impl Lone {
     {
         Ok(Lone {
             core: Core::new(boot(0, 0, 0)),
+            translations: Translations {
+                mmu: Mmu {
+                    tlb: GuestTlb::new(alloc)?,
+                    nv: 0,
+                },
+            },
             memory: load(alloc, MEMORY_SIZE, image)?,
             outstanding: 0,
             steps: 0,
@@ -112,9 +120,8 @@ impl Lone {
 
     /// Does one step: its time passes, and it enters an interrupt, waits, or does an instruction.
     ///
-    /// `NotBuilt` comes where an access finds no translation, for tlbwe, tlbre, tlbsx, tlbivax and tlbilx of
-    /// T other than 2 with MSR[PR] clear, and for a hypercall with MSR[PR] clear whose token is that of a
-    /// service that the machine doesn't have yet.
+    /// `NotBuilt` comes exactly for a hypercall with MSR[PR] clear whose token is that of a service that the
+    /// machine doesn't have yet.
     #[tactic(auto, using(crate::proofs::Steps::step_unbuilt, crate::proofs::Steps::step_done, crate::proofs::Steps::taken_back))]
     pub fn step(&mut self) -> LoneStep
         requires running { self.old.faulted ≡ false }
@@ -194,7 +201,7 @@ impl Lone {
     }
 
     /// Does an instruction, and what comes of it.
-    #[tactic(auto, using(crate::proofs::Steps::unbuilt_stays, crate::proofs::Backed::pages_backed), unfolding(crate::specs::Step::instruction))]
+    #[tactic(auto, using(crate::proofs::Steps::unbuilt_stays, crate::proofs::Backed::blocks_backed), unfolding(crate::specs::Step::instruction))]
     fn instruct(&mut self) -> LoneStep
         requires { self.old.faulted ≡ false }
         ensures done { instruction self.old ≡ record { after = self.new; act = act_of result } }
@@ -202,7 +209,9 @@ impl Lone {
         ensures kept { KeepsUnbuilt result self.old self.new }
         ensures fault { TellsFault result self.new.faulted }
     {
-        let answer = self.core.step(&Initial, &mut self.memory);
+        // What the slots keep: so each block that the core finds lies in the memory.
+        self.translations.mmu.tlb.are_kept();
+        let answer = self.core.step(&self.translations, &mut self.memory);
         self.handle(answer)
     }
 
@@ -220,13 +229,13 @@ impl Lone {
             Hw::Sc => self.enter(Cause::Syscall),
             Hw::Hcall => self.serve(),
             Hw::Priv(insn) => self.do_privileged(insn),
-            Hw::MissData { ea, .. } => {
+            Hw::MissData { ea, store } => {
                 let space = self.core.regs().data_space();
-                self.miss(space, ea)
+                self.miss(Cause::MissData { ea, store }, space, ea)
             }
             Hw::MissInsn { ea } => {
                 let space = self.core.regs().instruction_space();
-                self.miss(space, ea)
+                self.miss(Cause::MissInsn { ea }, space, ea)
             }
             Hw::StorageData { ea, store, little } => {
                 let esr = store_syndrome(store) + order_syndrome(little);
@@ -252,7 +261,7 @@ impl Lone {
         ensures steps { self.new.steps ≡ self.old.steps }
         ensures fault { self.new.faulted ≡ self.old.faulted }
     {
-        deliver(self.core.regs_mut(), cause);
+        deliver(self.core.regs_mut(), &mut self.translations.mmu, cause);
         LoneStep::Quiet
     }
 
@@ -273,37 +282,34 @@ impl Lone {
         }
     }
 
-    /// Deals with an access that found no page.
+    /// Deals with an access that found no memory; the cause is its TLB error.
     #[tactic(auto, unfolding(crate::specs::Step::missed))]
-    fn miss(&mut self, space: bool, ea: u32) -> LoneStep
-        requires { self.old.faulted ≡ false }
-        ensures missed { missed space ea self.old ≡ record { after = self.new; act = act_of result } }
+    fn miss(&mut self, cause: Cause, space: bool, ea: u32) -> LoneStep
+        requires running { self.old.faulted ≡ false }
+        requires entered { IsTrue (may_enter cause self.old.registers) }
+        ensures missed { missed cause space ea self.old ≡ record { after = self.new; act = act_of result } }
         ensures bytes { HasBytes result }
         ensures kept { KeepsUnbuilt result self.old self.new }
         ensures fault { TellsFault result self.new.faulted }
     {
-        if is_translated(space, ea) {
+        let pid = self.core.regs().pid() as u16;
+        if self.translations.is_translated(space, pid, ea) {
             self.check()
         } else {
-            LoneStep::NotBuilt
+            self.enter(cause)
         }
     }
 
     /// Does a privileged instruction for the system.
     #[tactic(auto, unfolding(crate::specs::Step::privileged))]
     fn do_privileged(&mut self, insn: Insn) -> LoneStep
-        requires { self.old.faulted ≡ false }
         ensures done { privileged insn self.old ≡ record { after = self.new; act = act_of result } }
-        ensures bytes { HasBytes result }
-        ensures kept { KeepsUnbuilt result self.old self.new }
-        ensures fault { TellsFault result self.new.faulted }
+        ensures quiet { result ≡ LoneStep.Quiet }
+        ensures steps { self.new.steps ≡ self.old.steps }
+        ensures fault { self.new.faulted ≡ self.old.faulted }
     {
-        if is_emulated(insn.op) {
-            emulate(&insn, self.core.regs_mut());
-            LoneStep::Quiet
-        } else {
-            LoneStep::NotBuilt
-        }
+        emulate(&insn, self.core.regs_mut(), &mut self.translations.mmu);
+        LoneStep::Quiet
     }
 
     /// Does the hypercall that r11 asks for.
@@ -391,14 +397,6 @@ fn load(alloc: Global, size: u32, image: &[u8]) -> Result<Ground, NoMemory>
     let mut ground = Ground::new(alloc, &[size])?;
     ground.put(0, 0, image);
     Ok(ground)
-}
-
-/// ST of the ESR, for a store.
-fn store_syndrome(store: bool) -> u32
-    ensures value { result ≡ store_syndrome store }
-    ensures bound { result ≤ 0x0080_0000 }
-{
-    if store { STORE } else { 0 }
 }
 
 /// BO of the ESR, for a little-endian page.

@@ -75,6 +75,46 @@ const UNBACKED: [u32; 2] = [0x3C60_0001, 0x8083_0000];
 // Asks how many bytes wait, which no service tells yet.
 const POLL: [u32; 3] = [0x3D60_0001, 0x616B_0003, 0x4400_0022];
 
+// Runs a user program in pages that are translated as they are missed, and sends "Hi" for it: examples/user.
+const USER: [u32; 36] = [
+    0x3860_0040, // li r3,64
+    0x7C7D_63A6, // mtivor13 r3
+    0x7C7E_63A6, // mtivor14 r3
+    0x3860_0060, // li r3,96
+    0x7C78_63A6, // mtivor8 r3
+    0x3860_0100, // li r3,256
+    0x7C74_9BA6, // mtspr 628,r3
+    0x3860_0005, // li r3,5
+    0x7C70_0BA6, // mtpid r3
+    0x3C60_1000, // lis r3,4096
+    0x6063_0074, // ori r3,r3,116
+    0x7C7A_03A6, // mtsrr0 r3
+    0x3860_4030, // li r3,16432
+    0x7C7B_03A6, // mtsrr1 r3
+    0x4C00_0064, // rfi
+    0x6000_0000, // nop
+    0x7D50_43A6, // mtsprg 0,r10
+    0x7D52_9AA6, // mfspr r10,626
+    0x554A_0426, // rlwinm r10,r10,0,16,19
+    0x614A_003F, // ori r10,r10,63
+    0x7D53_9BA6, // mtspr 627,r10
+    0x7C00_07A4, // tlbwe
+    0x7D50_42A6, // mfsprg r10,0
+    0x4C00_0064, // rfi
+    0x3D60_0001, // lis r11,1
+    0x616B_0001, // ori r11,r11,1
+    0x3860_0001, // li r3,1
+    0x4400_0022, // sc 1
+    0x4C00_0064, // rfi
+    0x3CC0_2000, // lis r6,8192
+    0x60C6_008C, // ori r6,r6,140
+    0x80A6_0000, // lwz r5,0(r6)
+    0x3880_0002, // li r4,2
+    0x4400_0002, // sc
+    0x4800_0000, // b 88
+    0x4869_0000, // b 69008c
+];
+
 // Lists of words that are of no form, with bars between the words.
 const OUT_OF_FORM: [&str; 24] = [
     "dtb",
@@ -199,6 +239,12 @@ fn images_write_what_was_worked_out(rt: HostRuntime) -> Result<(), Fail> {
             "1000000000000",
             Status::Ok,
             "guest 2 faulted\nend guest faulted 2\nconsole con 0 0 0\n",
+        ),
+        (
+            USER.as_slice(),
+            "50",
+            Status::Ok,
+            "guest 42 sent 1 4869\nend guest running 50\nconsole con 2 0 0\n",
         ),
         (
             POLL.as_slice(),

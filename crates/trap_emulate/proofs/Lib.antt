@@ -1,3 +1,4 @@
 pub mod Halves
+pub mod Upper
 pub mod Timekeeping
 pub mod Returns

@@ -1,8 +1,9 @@
 -- The entry of interrupts (Power ISA 2.06, Book III-E, chapter 7).
-use Rattle.std.specs.Prelude.{ℕ, ◌+◌, ◌*◌, ◌/◌, ◌%◌, ◌^◌, Bool, true, slice_index, bit_and}
-use Rattle.guest_regs.specs.Registers.{Registers, machine_state}
+use Rattle.std.specs.Prelude.{ℕ, ◌+◌, ◌*◌, ◌/◌, ◌%◌, ◌^◌, Bool, true, slice_index, bit_and, if◌then◌else◌}
+use Rattle.guest_regs.specs.Registers.{Registers, machine_state, instruction_space, data_space}
 use Rattle.trap_emulate.specs.declared.cause.Cause.{Cause}
-use Rattle.trap_emulate.specs.declared.cause.Cause.TheVariants.{MachineCheck, StorageData, StorageInsn, External, Align, Program, NoFloat, Syscall, Decrementer}
+use Rattle.trap_emulate.specs.declared.cause.Cause.TheVariants.{MachineCheck, StorageData, StorageInsn, External, Align, Program, NoFloat, Syscall, Decrementer, MissData, MissInsn}
+use Rattle.trap_emulate.specs.Tlb.{missing}
 use Rattle.trap_emulate.specs.State.{critical_enable, external_enable, machine_check_enable, is_set}
 
 -- The address of a kind's handler: 16 bits of IVPR, 12 bits of the kind's IVOR, and four zeros.
@@ -38,17 +39,25 @@ explained syndrome registers = record registers { esr = syndrome }
 abbrev pub next_instruction : Registers → ℕ
 next_instruction registers = (registers.pc + 4) % 2 ^ 32
 
--- Each cause has its kind's number. All go back to the instruction that was to be done, but a system call to the one after it.
-unfoldable pub delivered : Cause → Registers → Registers
-delivered MachineCheck registers = checked registers
-delivered (StorageData address syndrome) registers = interrupted 2 registers.pc (about address syndrome registers)
-delivered (StorageInsn syndrome) registers = interrupted 3 registers.pc (explained syndrome registers)
-delivered External registers = interrupted 4 registers.pc registers
-delivered (Align address syndrome) registers = interrupted 5 registers.pc (about address syndrome registers)
-delivered (Program syndrome) registers = interrupted 6 registers.pc (explained syndrome registers)
-delivered NoFloat registers = interrupted 7 registers.pc registers
-delivered Syscall registers = interrupted 8 (next_instruction registers) registers
-delivered Decrementer registers = interrupted 10 registers.pc registers
+-- ST: the access was a store
+abbrev pub store_syndrome : Bool → ℕ
+store_syndrome store = if store then 2 ^ 23 else 0
+
+-- Each cause has its kind's number. All go back to the instruction that was to be done, but a system call to the one after it. A TLB
+-- error also tells in the MAS registers what missed, with the next victim.
+unfoldable pub delivered : ℕ → Cause → Registers → Registers
+delivered nv MachineCheck registers = checked registers
+delivered nv (StorageData address syndrome) registers = interrupted 2 registers.pc (about address syndrome registers)
+delivered nv (StorageInsn syndrome) registers = interrupted 3 registers.pc (explained syndrome registers)
+delivered nv External registers = interrupted 4 registers.pc registers
+delivered nv (Align address syndrome) registers = interrupted 5 registers.pc (about address syndrome registers)
+delivered nv (Program syndrome) registers = interrupted 6 registers.pc (explained syndrome registers)
+delivered nv NoFloat registers = interrupted 7 registers.pc registers
+delivered nv Syscall registers = interrupted 8 (next_instruction registers) registers
+delivered nv Decrementer registers = interrupted 10 registers.pc registers
+delivered nv (MissData address store) registers =
+    interrupted 13 registers.pc (missing nv (data_space registers) address (about address (store_syndrome store) registers))
+delivered nv (MissInsn address) registers = interrupted 14 registers.pc (missing nv (instruction_space registers) address registers)
 
 -- External and decrementer interrupts are entered only where EE is set.
 abbrev pub are_interrupts_enabled : Registers → Bool

@@ -8,7 +8,7 @@ use Rattle.trap_emulate.specs.declared.cause.Cause.TheVariants.{MachineCheck, Sy
 use Rattle.trap_emulate.specs.State.{is_set}
 use Rattle.trap_emulate.specs.Clock.{ticked, auto_reload, decrementer_status}
 use Rattle.trap_emulate.specs.Entry.{delivered, next_instruction}
-use Rattle.trap_emulate.specs.Privileged.{emulated}
+use Rattle.trap_emulate.specs.Privileged.{state_after}
 
 -- the registers when so many steps have passed that changed nothing else
 abbrev pub after_steps : ℕ → Registers → Registers
@@ -49,7 +49,7 @@ abbrev pub resumption : Cause → Registers → ℕ
 resumption Syscall registers = next_instruction registers
 resumption _ registers = registers.pc
 
--- the registers without what interrupts save and tell
+-- the registers without those that interrupts save and tell in
 abbrev pub apart_from_interrupts : Registers → Registers
 apart_from_interrupts registers = record registers {
   srr0 = 0;
@@ -58,11 +58,18 @@ apart_from_interrupts registers = record registers {
   mcsrr1 = 0;
   dear = 0;
   esr = 0;
+  mas0 = 0;
+  mas1 = 0;
+  mas2 = 0;
+  mas3 = 0;
+  mas4 = 0;
+  mas6 = 0;
+  mas7 = 0;
 }
 
 -- An interrupt and the return from it leave a core as it was, in the machine state that it had, where the program goes on.
 abbrev pub ReturnsGoBack : Type 0
 ReturnsGoBack =
-    (cause : Cause) (word : ℕ) (registers : Registers) → registers.pc % 4 ≡ 0 → machine_state registers.msr ≡ registers.msr →
-    let back = emulated (return_from cause) word (delivered cause registers) in
+    (cause : Cause) (word nv : ℕ) (registers : Registers) → registers.pc % 4 ≡ 0 → machine_state registers.msr ≡ registers.msr →
+    let back = state_after (return_from cause) word (delivered nv cause registers) in
     apart_from_interrupts back ≡ apart_from_interrupts (record registers { pc = resumption cause registers })

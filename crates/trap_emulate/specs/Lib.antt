@@ -1,5 +1,6 @@
 pub mod State
 pub mod Clock
+pub mod Tlb
 pub mod Entry
 pub mod Privileged
 pub mod Laws

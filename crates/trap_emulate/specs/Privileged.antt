@@ -1,24 +1,13 @@
--- The privileged instructions that translations have no part in (Power ISA 2.06, Book III-E, chapters 4 and 5).
-use Rattle.std.specs.Prelude.{ℕ, ◌==◌, Bool, true, false, bit_and, bit_or, if◌then◌else◌}
+-- The privileged instructions (Power ISA 2.06, Book III-E, chapters 4 to 6).
+use Rattle.std.specs.Prelude.{ℕ, ◌==◌, Bool, List, bit_and, bit_or, if◌then◌else◌}
 use Rattle.std.specs.Int.{w32, bit_not}
 use Rattle.insn.specs.declared.instruction.Op.{Op}
 use Rattle.insn.specs.declared.instruction.Op.TheVariants as op
 use Rattle.insn.specs.Fields.{rt_field, enable_bit}
 use Rattle.guest_regs.specs.Registers.{Registers, gpr_of, with_gpr, instruction_address, advanced, machine_state}
+use Rattle.mas.specs.declared.entry.Entry.{Entry}
+use Rattle.trap_emulate.specs.Tlb.{Emulated, kept, operand_address, tlb_write, tlb_read, tlb_search, tlb_invalidate_local, tlb_invalidate}
 use Rattle.trap_emulate.specs.State.{external_enable, is_set}
-
--- the instructions that are done here
-abbrev pub is_emulated : Op → Bool
-is_emulated op.Rfi = true
-is_emulated op.Rfci = true
-is_emulated op.Rfmci = true
-is_emulated op.Mfmsr = true
-is_emulated op.Mtmsr = true
-is_emulated op.Wrtee = true
-is_emulated op.Wrteei = true
-is_emulated op.Tlbsync = true
-is_emulated op.Dcbi = true
-is_emulated _ = false
 
 -- back to an address and a machine state that an interrupt saved
 unfoldable pub returned : ℕ → ℕ → Registers → Registers
@@ -34,16 +23,24 @@ with_external_enable on registers = record registers {
 abbrev pub named : ℕ → Registers → ℕ
 named word registers = gpr_of registers (rt_field word)
 
--- Returns take SRR0 and SRR1, or their like for critical interrupts and machine checks. tlbsync and dcbi only go on. What
--- another instruction does isn't said here.
-unfoldable pub emulated : Op → ℕ → Registers → Registers
-emulated op.Rfi word registers = returned registers.srr0 registers.srr1 registers
-emulated op.Rfci word registers = returned registers.csrr0 registers.csrr1 registers
-emulated op.Rfmci word registers = returned registers.mcsrr0 registers.mcsrr1 registers
-emulated op.Mfmsr word registers = advanced (with_gpr registers (rt_field word) registers.msr)
-emulated op.Mtmsr word registers = advanced (record registers { msr = machine_state (named word registers) })
-emulated op.Wrtee word registers = advanced (with_external_enable (is_set external_enable (named word registers)) registers)
-emulated op.Wrteei word registers = advanced (with_external_enable (enable_bit word == 1) registers)
-emulated op.Tlbsync word registers = advanced registers
-emulated op.Dcbi word registers = advanced registers
-emulated _ word registers = registers
+-- Returns take SRR0 and SRR1, or their like for critical interrupts and machine checks. tlbsync and dcbi only go on.
+unfoldable pub state_after : Op → ℕ → Registers → Registers
+state_after op.Rfi word registers = returned registers.srr0 registers.srr1 registers
+state_after op.Rfci word registers = returned registers.csrr0 registers.csrr1 registers
+state_after op.Rfmci word registers = returned registers.mcsrr0 registers.mcsrr1 registers
+state_after op.Mfmsr word registers = advanced (with_gpr registers (rt_field word) registers.msr)
+state_after op.Mtmsr word registers = advanced (record registers { msr = machine_state (named word registers) })
+state_after op.Wrtee word registers = advanced (with_external_enable (is_set external_enable (named word registers)) registers)
+state_after op.Wrteei word registers = advanced (with_external_enable (enable_bit word == 1) registers)
+state_after op.Tlbsync word registers = advanced registers
+state_after op.Dcbi word registers = advanced registers
+state_after _ word registers = registers
+
+-- Every privileged instruction. What another one does isn't said here.
+unfoldable pub emulated : Op → ℕ → Registers → List Entry → ℕ → Emulated
+emulated op.Tlbwe word registers slots nv = tlb_write registers slots nv
+emulated op.Tlbre word registers slots nv = kept slots nv (tlb_read registers slots nv)
+emulated op.Tlbsx word registers slots nv = kept slots nv (tlb_search (operand_address word registers) registers slots nv)
+emulated op.Tlbilx word registers slots nv = tlb_invalidate_local word registers slots nv
+emulated op.Tlbivax word registers slots nv = tlb_invalidate (operand_address word registers) registers slots nv
+emulated operation word registers slots nv = kept slots nv (state_after operation word registers)

@@ -1,7 +1,7 @@
 /// Why a core enters an interrupt (Power ISA 2.06, Book III-E, chapter 7).
 ///
 /// `ea` is the effective address of the access, which DEAR takes, and `esr` what the exception syndrome register
-/// takes.
+/// takes. `store` is whether the access was a store.
 #[derive(Clone, Copy, Debug, PartialEq, Eq)]
 pub enum Cause {
     /// An access to storage that isn't there.
@@ -22,4 +22,8 @@ pub enum Cause {
     Syscall,
     /// The decrementer has expired.
     Decrementer,
+    /// A load or store that no translation matches.
+    MissData { ea: u32, store: bool },
+    /// A fetch that no translation matches.
+    MissInsn { ea: u32 },
 }

@@ -1,10 +1,14 @@
 //! The entry of interrupts.
 
-ghost use Rattle.std.specs.Prelude.{◌≡◌, ℕ, ◌<◌, ◌%◌, IsTrue};
-ghost use Rattle.trap_emulate.specs.Entry.{delivered, handler, interrupted, checked, are_interrupts_enabled, may_enter};
+ghost use Rattle.std.specs.Prelude.{◌≡◌, ℕ, ◌<◌, ◌≤◌, ◌%◌, IsTrue};
+ghost use Rattle.trap_emulate.specs.Entry.{delivered, handler, interrupted, checked, about, store_syndrome, are_interrupts_enabled, may_enter};
+ghost use Rattle.guest_regs.specs.Registers.{data_space};
+ghost use Rattle.trap_emulate.specs.Tlb.{missing};
 
 use crate::cause::Cause;
-use crate::state::{CRITICAL_ENABLE, EXTERNAL_ENABLE, MACHINE_CHECK_ENABLE, has};
+use crate::mmu::Mmu;
+use crate::state::{CRITICAL_ENABLE, EXTERNAL_ENABLE, MACHINE_CHECK_ENABLE, STORE, has};
+use crate::tlb::miss;
 use guest_regs::Regs;
 
 /// Whether MSR[EE] lets external and decrementer interrupts be entered.
@@ -24,30 +28,32 @@ pub fn may_enter(regs: &Regs, cause: Cause) -> bool
     }
 }
 
-/// Enters the interrupt of a cause, which `may_enter` allows (Power ISA 2.06, Book III-E, chapter 7).
+/// What the ESR tells of a store, ST, and of a load, nothing (Power ISA 2.06, Book III-E, chapter 7).
+pub fn store_syndrome(store: bool) -> u32
+    ensures value { result ≡ store_syndrome store }
+    ensures bound { result ≤ 0x0080_0000 }
+{
+    if store { STORE } else { 0 }
+}
+
+/// Enters the interrupt of a cause, which `may_enter` allows (Power ISA 2.06, Book III-E, chapter 7). A TLB error tells in the
+/// MAS registers what missed; translations and the next-victim counter stay.
 #[tactic(auto, unfolding(crate::specs::Entry::delivered))]
-pub fn deliver(regs: &mut Regs, cause: Cause)
+pub fn deliver(regs: &mut Regs, mmu: &mut Mmu, cause: Cause)
     requires { IsTrue (may_enter cause regs.old) }
-    ensures { regs.new ≡ delivered cause regs.old }
+    ensures registers { regs.new ≡ delivered mmu.old.nv cause regs.old }
+    ensures kept { mmu.new ≡ mmu.old }
 {
     let here = regs.pc();
     match cause {
         Cause::MachineCheck => check(regs),
-        Cause::StorageData { ea, esr } => {
-            regs.set_dear(ea);
-            regs.set_esr(esr);
-            interrupt(regs, 2, here);
-        }
+        Cause::StorageData { ea, esr } => explain(regs, 2, ea, esr),
         Cause::StorageInsn { esr } => {
             regs.set_esr(esr);
             interrupt(regs, 3, here);
         }
         Cause::External => interrupt(regs, 4, here),
-        Cause::Align { ea, esr } => {
-            regs.set_dear(ea);
-            regs.set_esr(esr);
-            interrupt(regs, 5, here);
-        }
+        Cause::Align { ea, esr } => explain(regs, 5, ea, esr),
         Cause::Program { esr } => {
             regs.set_esr(esr);
             interrupt(regs, 6, here);
@@ -55,7 +61,36 @@ pub fn deliver(regs: &mut Regs, cause: Cause)
         Cause::NoFloat => interrupt(regs, 7, here),
         Cause::Syscall => interrupt(regs, 8, here.wrapping_add(4)),
         Cause::Decrementer => interrupt(regs, 10, here),
+        Cause::MissData { ea, store } => miss_data(regs, mmu, ea, store),
+        Cause::MissInsn { ea } => {
+            miss(mmu.nv, regs.instruction_space(), ea, regs);
+            interrupt(regs, 14, here);
+        }
     }
+}
+
+/// Enters an interrupt that tells an address and what was wrong.
+fn explain(regs: &mut Regs, kind: u8, ea: u32, esr: u32)
+    requires { kind < 16 }
+    ensures { regs.new ≡ interrupted kind regs.old.pc (about ea esr regs.old) }
+{
+    regs.set_dear(ea);
+    regs.set_esr(esr);
+    let here = regs.pc();
+    interrupt(regs, kind, here);
+}
+
+/// Enters the TLB error of a load or store.
+#[tactic(auto, unfolding(crate::specs::Tlb::missing, crate::specs::Tlb::with_mas))]
+fn miss_data(regs: &mut Regs, mmu: &Mmu, ea: u32, store: bool)
+    ensures { let told = missing mmu.now.nv (data_space regs.old) ea (about ea (store_syndrome store) regs.old) in
+        regs.new ≡ interrupted 13 regs.old.pc told }
+{
+    let here = regs.pc();
+    regs.set_dear(ea);
+    regs.set_esr(store_syndrome(store));
+    miss(mmu.nv, regs.data_space(), ea, regs);
+    interrupt(regs, 13, here);
 }
 
 /// The address of the handler of a kind of interrupt.

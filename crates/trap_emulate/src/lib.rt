@@ -1,9 +1,10 @@
 //! What the system of a guest can do to its core: its timers, its interrupts and its privileged instructions.
 //!
-//! It stands on `insn` for the instructions and their fields, and on `guest_regs` for the registers. `tick` meets
+//! It stands on `insn` for the instructions and their fields, on `guest_regs` for the registers, on `mas` and
+//! `guest_tlb` for translations, on `outside` for the want of memory, and on the kit's `arrayvec`. `tick` meets
 //! `specs/Clock.antt`, the time base and the decrementer of one step; `deliver` meets `specs/Entry.antt`, the entry
-//! of each interrupt; `emulate` meets `specs/Privileged.antt`, the returns from interrupts and the instructions that
-//! read and write the machine state. `specs/State.antt` names the bits of the machine state, and `specs/Laws.antt`
+//! of each interrupt; `emulate` meets `specs/Privileged.antt`, the privileged instructions, of which
+//! `specs/Tlb.antt` has those on translations. `specs/State.antt` names the bits of the machine state, and `specs/Laws.antt`
 //! says what the definitions mean over whole runs.
 #![tactic(auto)]
 
@@ -11,14 +12,17 @@ mod cause;
 mod clock;
 mod entry;
 mod laws;
+mod mmu;
 mod privileged;
 mod state;
+mod tlb;
 
 pub use cause::Cause;
 pub use clock::{is_decrementer_pending, tick};
-pub use entry::{are_interrupts_enabled, deliver, may_enter};
+pub use entry::{are_interrupts_enabled, deliver, may_enter, store_syndrome};
 pub use laws::{clocks_keep_time, returns_go_back};
-pub use privileged::{emulate, is_emulated};
+pub use mmu::Mmu;
+pub use privileged::emulate;
 
 #[cfg(test)]
 mod tests;

@@ -1,38 +1,53 @@
-//! The privileged instructions that translations have no part in.
+//! The privileged instructions.
 
 ghost use Rattle.std.specs.Prelude.{◌≡◌, ℕ};
-ghost use Rattle.trap_emulate.specs.Privileged.{emulated, is_emulated, returned, with_external_enable};
+ghost use Rattle.trap_emulate.specs.Privileged.{emulated, state_after, returned, with_external_enable};
 
+use crate::mmu::Mmu;
 use crate::state::{EXTERNAL_ENABLE, has};
+use crate::tlb::{
+    invalidate, invalidate_local, operand_address_of, read_tlb, search_tlb, write_tlb,
+};
+use arrayvec::ArrayVec;
 use guest_regs::Regs;
+use guest_tlb::Dead;
 use insn::{Insn, Op};
 
-/// Whether `emulate` does an instruction.
-pub fn is_emulated(op: Op) -> bool
-    ensures { result ≡ is_emulated op }
+/// Does a privileged instruction for the system, which `Regs::is_user` keeps from user programs: the returns from
+/// interrupts, `mfmsr`, `mtmsr`, `wrtee` and `wrteei` (Power ISA 2.06, Book III-E, chapters 4 and 5), `tlbwe`, `tlbre`,
+/// `tlbsx`, `tlbilx` and `tlbivax` (chapter 6), and `tlbsync` and `dcbi`, which have no effect here but to go on.
+/// Answers the slots whose translations it wrote or ended, in rising order.
+///
+/// `insn` is what `insn::decode` gives of its word. `tlbilx` with T of 2 is illegal and doesn't come here; it and every
+/// other instruction leave all as it is.
+#[tactic(auto, unfolding(crate::specs::Privileged::emulated))]
+pub fn emulate(insn: &Insn, regs: &mut Regs, mmu: &mut Mmu) -> Dead
+    ensures { emulated insn.now.op insn.now.word regs.old mmu.old.tlb mmu.old.nv
+        ≡ record { registers = regs.new; slots = mmu.new.tlb; nv = mmu.new.nv; ended = result.items } }
 {
-    matches!(
-        op,
-        Op::Rfi
-            | Op::Rfci
-            | Op::Rfmci
-            | Op::Mfmsr
-            | Op::Mtmsr
-            | Op::Wrtee
-            | Op::Wrteei
-            | Op::Tlbsync
-            | Op::Dcbi
-    )
+    match insn.op {
+        Op::Tlbwe => write_tlb(regs, mmu),
+        Op::Tlbre => {
+            read_tlb(regs, mmu);
+            ArrayVec::new()
+        }
+        Op::Tlbsx => {
+            search_tlb(operand_address_of(insn, regs), regs, mmu);
+            ArrayVec::new()
+        }
+        Op::Tlbilx => invalidate_local(insn, regs, mmu),
+        Op::Tlbivax => invalidate(operand_address_of(insn, regs), regs, mmu),
+        _ => {
+            change_state(insn, regs);
+            ArrayVec::new()
+        }
+    }
 }
 
-/// Does a privileged instruction for the system, which `is_emulated` lists and `Regs::is_user` keeps from user programs: the
-/// returns from interrupts, `mfmsr`, `mtmsr`, `wrtee` and `wrteei` (Power ISA 2.06, Book III-E, chapters 4 and 5), and
-/// `tlbsync` and `dcbi`, which have no effect here but to go on.
-///
-/// `insn` is what `insn::decode` gives of its word. Another instruction leaves the registers as they are.
-#[tactic(auto, unfolding(crate::specs::Privileged::emulated))]
-pub fn emulate(insn: &Insn, regs: &mut Regs)
-    ensures { regs.new ≡ emulated insn.now.op insn.now.word regs.old }
+/// Does an instruction on the machine state alone, and no other.
+#[tactic(auto, unfolding(crate::specs::Privileged::state_after))]
+fn change_state(insn: &Insn, regs: &mut Regs)
+    ensures { regs.new ≡ state_after insn.now.op insn.now.word regs.old }
 {
     let register = insn.rt() as u8;
     match insn.op {

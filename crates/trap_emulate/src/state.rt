@@ -1,4 +1,4 @@
-//! The bits of the machine state and of the timers' registers that are looked at here.
+//! The bits of the machine state, of the timers' registers and of the exception syndrome that count here.
 
 ghost use Rattle.std.specs.Prelude.{◌≡◌, ℕ, ◌<◌};
 ghost use Rattle.trap_emulate.specs.State.{is_set};
@@ -20,6 +20,9 @@ pub const DECREMENTER_ENABLE: u32 = 0x0400_0000;
 
 /// ARE of the TCR: the decrementer is reloaded when it expires.
 pub const AUTO_RELOAD: u32 = 0x0040_0000;
+
+/// ST of the ESR: the access was a store.
+pub const STORE: u32 = 0x0080_0000;
 
 /// Whether a value has a bit, which is given by its weight.
 pub fn has(value: u32, bit: u32) -> bool

@@ -1,6 +1,9 @@
 use super::*;
 use guest_regs::{Regs, boot};
+use guest_tlb::GuestTlb;
 use insn::decode;
+use outside::NoMemory;
+use std::alloc::Global;
 use std::test::*;
 
 /// Time base, DEC, DECAR, TCR and TSR before a step, and time base, DEC and TSR after it.
@@ -170,18 +173,17 @@ fn core_at(pc: u32, state: u32) -> Regs {
     regs
 }
 
-/// Does the instruction of a word where the system runs and the instruction is done here.
-fn emulates(word: u32, regs: &mut Regs) -> bool {
-    let insn = decode(word);
-    if regs.is_user() || !is_emulated(insn.op) {
-        return false;
-    }
-    emulate(&insn, regs);
-    true
+/// Translations after a reset, with a next victim.
+fn mmu_with(alloc: Global, nv: u8) -> Result<Mmu, NoMemory> {
+    Ok(Mmu {
+        tlb: GuestTlb::new(alloc)?,
+        nv,
+    })
 }
 
 #[test]
-fn each_cause_goes_to_its_handler(rt: HostRuntime) {
+fn each_cause_goes_to_its_handler(rt: HostRuntime) -> Result<(), Fail> {
+    let mut mmu = mmu_with(rt.alloc(), 0)?;
     for &(cause, kind, dear, esr, back) in CAUSES.iter() {
         for &(state, inside) in [
             (0x1002_D030, 0x1002_1000), // all bits: GS, CE and ME stay
@@ -194,7 +196,7 @@ fn each_cause_goes_to_its_handler(rt: HostRuntime) {
         {
             let mut regs = core_at(0x2000, state);
             assert!(rt; may_enter(&regs, cause));
-            deliver(&mut regs, cause);
+            deliver(&mut regs, &mut mmu, cause);
             assert_eq!(rt;
                 (regs.pc(), regs.msr()),
                 (0x1234_0000 + 0x100 * kind, inside),
@@ -207,24 +209,27 @@ fn each_cause_goes_to_its_handler(rt: HostRuntime) {
         }
     }
     let mut regs = core_at(0xFFFF_FFFC, 0x1000_0000);
-    deliver(&mut regs, Cause::Syscall);
+    deliver(&mut regs, &mut mmu, Cause::Syscall);
     assert_eq!(rt; regs.srr0(), 0);
+    Ok(())
 }
 
 #[test]
-fn a_machine_check_has_registers_of_its_own(rt: HostRuntime) {
+fn a_machine_check_has_registers_of_its_own(rt: HostRuntime) -> Result<(), Fail> {
+    let mut mmu = mmu_with(rt.alloc(), 0)?;
     for &state in [0x1000_1000, 0x1002_D030, 0x1000_5000].iter() {
         let mut regs = core_at(0x2000, state);
         assert!(rt; may_enter(&regs, Cause::MachineCheck));
-        deliver(&mut regs, Cause::MachineCheck);
+        deliver(&mut regs, &mut mmu, Cause::MachineCheck);
         assert_eq!(rt; (regs.pc(), regs.msr()), (0x1234_0100, 0x1000_0000));
         assert_eq!(rt; (regs.mcsrr0(), regs.mcsrr1()), (0x2000, state));
         assert_eq!(rt; (regs.srr0(), regs.srr1()), (0xA0, 0xA1));
         assert_eq!(rt; (regs.csrr0(), regs.csrr1()), (0xB0, 0xB1));
         assert_eq!(rt; (regs.dear(), regs.esr()), (0xD, 0xE));
-        assert!(rt; emulates(0x4C00_004C, &mut regs)); // rfmci
+        emulate(&decode(0x4C00_004C), &mut regs, &mut mmu); // rfmci
         assert_eq!(rt; (regs.pc(), regs.msr()), (0x2000, state));
     }
+    Ok(())
 }
 
 /// Words with MSR and (r3) before, at 0x2000, and the PC, MSR and r3 after.
@@ -324,14 +329,15 @@ const ROWS: [(u32, u32, u32, u32, u32, u32); 22] = [
 ];
 
 #[test]
-fn privileged_rows(rt: HostRuntime) {
+fn privileged_rows(rt: HostRuntime) -> Result<(), Fail> {
+    let mut mmu = mmu_with(rt.alloc(), 0)?;
     for &(word, state, given, pc, after, left) in ROWS.iter() {
         let mut regs = core_at(0x2000, state);
         regs.set_srr1(0x0FFF_2F20);
         regs.set_csrr1(0x30);
         regs.set_mcsrr1(0x1000);
         regs.set_gpr(3, given);
-        assert!(rt; emulates(word, &mut regs), "{word:x}");
+        emulate(&decode(word), &mut regs, &mut mmu);
         assert_eq!(rt;
             (regs.pc(), regs.msr(), regs.gpr(3)),
             (pc, after, left),
@@ -342,17 +348,250 @@ fn privileged_rows(rt: HostRuntime) {
             (0xA0, 0xB0, 0xC0)
         );
     }
-    // what a user program has not, and what is done elsewhere
-    assert!(rt; !emulates(0x4C00_0064, &mut core_at(0, 0x4000)));
-    assert!(rt;
-        !emulates(0x7C00_07A4, &mut core_at(0, 0)) && !emulates(0x7C60_1A14, &mut core_at(0, 0))
-    );
     assert!(rt; !may_enter(&core_at(0, 0x0002_C030), Cause::MachineCheck));
     // a return clears the low two bits of its address
     let mut regs = core_at(0xFFFF_FFFC, 0);
-    assert!(rt; emulates(0x7C00_046C, &mut regs));
+    emulate(&decode(0x7C00_046C), &mut regs, &mut mmu);
     assert_eq!(rt; regs.pc(), 0);
     regs.set_srr0(0xFFFF_FFFF);
-    assert!(rt; emulates(0x4C00_0064, &mut regs));
+    emulate(&decode(0x4C00_0064), &mut regs, &mut mmu);
     assert_eq!(rt; regs.pc(), 0xFFFF_FFFC);
+    Ok(())
+}
+
+const TLBWE: u32 = 0x7C00_07A4;
+
+const TLBRE: u32 = 0x7C00_0764;
+
+/// tlbsx 0,r3
+const TLBSX: u32 = 0x7C00_1F24;
+
+/// Gives a core MAS0 to 4 and MAS6 and 7.
+fn set_all(regs: &mut Regs, values: [u32; 7]) {
+    let [m0, m1, m2, m3, m4, m6, m7] = values;
+    regs.set_mas0(m0);
+    regs.set_mas1(m1);
+    regs.set_mas2(m2);
+    regs.set_mas3(m3);
+    regs.set_mas4(m4);
+    regs.set_mas6(m6);
+    regs.set_mas7(m7);
+}
+
+fn all_of(regs: &Regs) -> [u32; 7] {
+    [
+        regs.mas0(),
+        regs.mas1(),
+        regs.mas2(),
+        regs.mas3(),
+        regs.mas4(),
+        regs.mas6(),
+        regs.mas7(),
+    ]
+}
+
+/// 64 KiB from 0x40010000 in space 1 for PID 7, to 0xA80030000, in slot 517.
+const PAGE: [u32; 7] = [
+    0x1005_0000,
+    0x8007_1300,
+    0x4001_2006,
+    0x8003_33F5,
+    0,
+    0,
+    0xA,
+];
+
+/// Instructions with (r3) and the MAS registers before, and the MAS registers after.
+const TOLD: [(u32, u32, [u32; 7], [u32; 7]); 6] = [
+    // the slot is read as TLB1 keeps it, and the other bits of MAS0 stay
+    (
+        TLBRE,
+        0,
+        [0xD005_F003, 0, 0, 0, 9, 8, 0],
+        [
+            0xD005_F002,
+            0x8007_1300,
+            0x4001_0006,
+            0x8003_03F5,
+            9,
+            8,
+            0xA,
+        ],
+    ),
+    // no slot is named
+    (
+        TLBRE,
+        0,
+        [0x2005_0003, 1, 2, 3, 4, 6, 7],
+        [0x2005_0002, 0, 0, 0, 4, 6, 0],
+    ),
+    // found at the last byte of its page
+    (
+        TLBSX,
+        0x4001_FFFF,
+        [0xCFFF_FFFF, 0, 0, 0, 9, 0x0007_0001, 0],
+        [
+            0xD005_F002,
+            0x8007_1300,
+            0x4001_0006,
+            0x8003_03F5,
+            9,
+            0x0007_0001,
+            0xA,
+        ],
+    ),
+    // behind its page, in the other space, and of another PID
+    (
+        TLBSX,
+        0x4002_0000,
+        [0xFFFF_FFFF, 1, 2, 3, 0x0000_0A1D, 0xC007_0FF1, 7],
+        [
+            0x0002_0003,
+            0x0007_1A00,
+            0x4002_001D,
+            0,
+            0x0000_0A1D,
+            0xC007_0FF1,
+            0,
+        ],
+    ),
+    (
+        TLBSX,
+        0x4001_0000,
+        [0xFFFF_FFFF, 1, 2, 3, 0x1000_0000, 0x0007_0000, 7],
+        [
+            0x1000_0000,
+            0x0007_0000,
+            0x4001_0000,
+            0,
+            0x1000_0000,
+            0x0007_0000,
+            0,
+        ],
+    ),
+    (
+        TLBSX,
+        0x4001_0000,
+        [0, 1, 2, 3, 0x3000_0000, 0x0008_0001, 7],
+        [
+            0x3000_0000,
+            0x0008_1000,
+            0x4001_0000,
+            0,
+            0x3000_0000,
+            0x0008_0001,
+            0,
+        ],
+    ),
+];
+
+#[test]
+fn reads_and_searches_tell_in_the_registers(rt: HostRuntime) -> Result<(), Fail> {
+    for &(word, r3, before, after) in TOLD.iter() {
+        let mut mmu = mmu_with(rt.alloc(), 2)?;
+        let mut regs = core_at(0x2000, 0);
+        set_all(&mut regs, PAGE);
+        let dead = emulate(&decode(TLBWE), &mut regs, &mut mmu);
+        assert_eq!(rt; dead.as_slice(), [517].as_slice());
+        assert_eq!(rt; (regs.pc(), mmu.nv), (0x2004, 2));
+        regs.set_gpr(3, r3);
+        set_all(&mut regs, before);
+        let dead = emulate(&decode(word), &mut regs, &mut mmu);
+        assert_eq!(rt; (dead.len(), regs.pc(), mmu.nv), (0, 0x2008, 2));
+        assert_eq!(rt; all_of(&regs), after, "{word:x} {r3:x}");
+    }
+    Ok(())
+}
+
+/// Invalidations of that page with (r3) and MAS6, and whether they end it: tlbilx with T of 0, 1 and 3, and tlbivax.
+const ENDINGS: [(u32, u32, u32, bool); 11] = [
+    (0x7C00_1824, 0, 0, true),
+    (0x7C20_1824, 0, 0x0007_0000, true),
+    (0x7C20_1824, 0, 0x0008_0001, false),
+    (0x7C60_1824, 0x4001_8000, 0x0007_0000, true),
+    (0x7C60_1824, 0x4002_0000, 0x0007_0000, false),
+    (0x7C60_1824, 0x4001_8000, 0x0000_0000, false),
+    (0x7C00_1E24, 0x4001_8008, 0, true),
+    (0x7C00_1E24, 0x4001_8000, 0, false), // of TLB0
+    (0x7C00_1E24, 0x4002_0008, 0, false),
+    (0x7C00_1E24, 0xC, 0, true), // all of TLB1
+    (0x7C00_1E24, 4, 0, false),
+];
+
+#[test]
+fn invalidations_end_what_they_name(rt: HostRuntime) -> Result<(), Fail> {
+    for &(word, r3, mas6, ends) in ENDINGS.iter() {
+        let mut mmu = mmu_with(rt.alloc(), 2)?;
+        let mut regs = core_at(0x2000, 0);
+        set_all(&mut regs, PAGE);
+        emulate(&decode(TLBWE), &mut regs, &mut mmu);
+        regs.set_gpr(3, r3);
+        regs.set_mas6(mas6);
+        let dead = emulate(&decode(word), &mut regs, &mut mmu);
+        assert_eq!(rt;
+            dead.as_slice() == [517].as_slice(),
+            ends,
+            "{word:x} {r3:x}"
+        );
+        assert_eq!(rt; (dead.is_empty(), mmu.tlb.read(517).valid), (!ends, !ends));
+        assert!(rt; mmu.tlb.read(512).valid);
+        assert_eq!(rt; regs.pc(), 0x2008);
+    }
+    // a write of TLB0 takes the way of ESEL and the counter from NV
+    let mut mmu = mmu_with(rt.alloc(), 2)?;
+    let mut regs = core_at(0x2000, 0);
+    set_all(
+        &mut regs,
+        [0x0006_0FFD, 0x8000_0000, 0x0408_5000, 0x15, 0, 0, 0],
+    );
+    let dead = emulate(&decode(TLBWE), &mut regs, &mut mmu);
+    assert_eq!(rt; (dead.as_slice(), mmu.nv), ([22].as_slice(), 1));
+    Ok(())
+}
+
+#[test]
+fn tlb_errors_tell_in_the_registers(rt: HostRuntime) -> Result<(), Fail> {
+    let mut mmu = mmu_with(rt.alloc(), 3)?;
+    let mut regs = core_at(0x2000, 0x1000_0010);
+    regs.set_pid(9);
+    set_all(&mut regs, [0xFFFF_FFFF, 1, 2, 3, 0x0000_0206, 6, 7]);
+    deliver(
+        &mut regs,
+        &mut mmu,
+        Cause::MissData {
+            ea: 0x0403_1234,
+            store: true,
+        },
+    );
+    assert_eq!(rt;
+        all_of(&regs),
+        [
+            0x0003_0000,
+            0x8009_1200,
+            0x0403_1006,
+            0,
+            0x0000_0206,
+            0x0009_0001,
+            0
+        ]
+    );
+    assert_eq!(rt; (regs.dear(), regs.esr()), (0x0403_1234, 0x0080_0000));
+    assert_eq!(rt;
+        (regs.pc(), regs.srr0(), regs.srr1()),
+        (0x1234_0D00, 0x2000, 0x1000_0010)
+    );
+    // a fetch, in the space of instructions
+    let mut regs = core_at(0x0403_1234, 0x1000_0010);
+    set_all(&mut regs, [0, 1, 2, 3, 0x1000_0100, 6, 7]);
+    deliver(&mut regs, &mut mmu, Cause::MissInsn { ea: 0x0403_1234 });
+    assert_eq!(rt;
+        all_of(&regs),
+        [0x1000_0000, 0x8000_0100, 0x0403_1000, 0, 0x1000_0100, 0, 0]
+    );
+    assert_eq!(rt;
+        (regs.dear(), regs.esr(), regs.pc()),
+        (0xD, 0xE, 0x1234_0E00)
+    );
+    assert_eq!(rt; mmu.nv, 3);
+    Ok(())
 }

@@ -1,0 +1,7 @@
+pub mod Sizes
+pub mod Passes
+pub mod Found
+pub mod Meeting
+pub mod Apart
+pub mod Upkeep
+pub mod Answered

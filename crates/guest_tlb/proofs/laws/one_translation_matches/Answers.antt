@@ -1,0 +1,9 @@
+use Rattle.guest_tlb.proofs.Meeting.{meeting_shares_an_access}
+use Rattle.guest_tlb.proofs.Apart.{one_matches}
+use Rattle.guest_tlb.proofs.laws.one_translation_matches.Goals as goal
+
+pub returns-clause-meeting : goal.returns-clause-meeting
+returns-clause-meeting c = meeting_shares_an_access
+
+pub returns-clause-one : goal.returns-clause-one
+returns-clause-one c = one_matches

@@ -1,0 +1,128 @@
+//! Which slot the registers name, and what a write leaves in it.
+
+ghost use Rattle.std.specs.Prelude.{◌≡◌, ◌<◌, IfSome};
+ghost use Rattle.guest_tlb.specs.Slots.{is_in_tlb0, named_slot, tlb0_form, has_size, tlb1_form, written_entry, initial_area};
+ghost use Rattle.guest_tlb.specs.Kept.{IsKept};
+
+use crate::page::size_of;
+use mas::{Entry, Mas, entry_select, from_mas, tlb_select};
+
+/// The slots of both TLBs.
+pub const SLOTS: usize = 576;
+
+/// The sets of TLB0.
+const SETS: u32 = 128;
+
+/// The ways of each set.
+const WAYS: u16 = 4;
+
+/// The slots of TLB1.
+const LARGE_SLOTS: u16 = 64;
+
+/// TLB1's largest page is of 4 to this power KiB, 4 GiB.
+const LARGEST: u8 = 11;
+
+/// The first slot of TLB1.
+pub const FIRST_OF_TLB1: usize = 512;
+
+/// A slot of nothing.
+pub const BLANK: Entry = Entry {
+    valid: false,
+    iprot: false,
+    tid: 0,
+    ts: false,
+    tsize: 0,
+    epn: 0,
+    wimge: 0,
+    rpn: 0,
+    perms: 0,
+};
+
+/// What the registers of the initial area say.
+const INITIAL: Mas = Mas {
+    m0: 0,
+    m1: 0xC000_0800,
+    m2: 0x4,
+    m3: 0x15,
+    m4: 0,
+    m6: 0,
+    m7: 0,
+};
+
+/// Whether a slot is of TLB0.
+pub fn is_of_tlb0(slot: u16) -> bool
+    ensures { result ≡ is_in_tlb0 slot }
+{
+    (slot as usize) < FIRST_OF_TLB1
+}
+
+/// The slot that TLBSEL, ESEL and EPN name, below 576: slots 0 to 511 are TLB0, its set times 4 plus its way, and 512
+/// to 575 are TLB1. None exactly where TLBSEL is above 1 (Power ISA 2.06, Book III-E, chapter 6, TLB management).
+#[tactic(auto, unfolding(crate::specs::Slots::named_slot))]
+pub fn slot_of(mas: &Mas) -> Option<u16>
+    ensures slot { result ≡ named_slot mas.now }
+    ensures bound { IfSome result (λ slot. slot < 576) }
+{
+    match tlb_select(mas) {
+        0 => Some(((mas.m2 >> 12) % SETS) as u16 * WAYS + entry_select(mas) % WAYS),
+        1 => Some(FIRST_OF_TLB1 as u16 + entry_select(mas) % LARGE_SLOTS),
+        _ => None,
+    }
+}
+
+/// A translation as TLB0 takes it.
+fn for_tlb0(entry: Entry) -> Entry
+    ensures { result ≡ tlb0_form entry }
+{
+    Entry {
+        iprot: false,
+        tsize: 1,
+        ..entry
+    }
+}
+
+/// Whether TLB1 has pages of a translation's size.
+fn is_of_a_size(entry: &Entry) -> bool
+    ensures { result ≡ has_size entry.now }
+{
+    (1..=LARGEST).contains(&entry.tsize)
+}
+
+/// A translation as TLB1 takes it.
+fn for_tlb1(entry: Entry) -> Entry
+    ensures { result ≡ tlb1_form entry }
+{
+    if !is_of_a_size(&entry) {
+        return Entry {
+            valid: false,
+            ..entry
+        };
+    }
+    let size = size_of(entry.tsize);
+    Entry {
+        epn: entry.epn - (entry.epn as u64 % size) as u32,
+        rpn: entry.rpn - entry.rpn % size,
+        ..entry
+    }
+}
+
+/// What a write of these registers leaves in a slot.
+#[tactic(auto, using(crate::proofs::Upkeep::written_kept_as), unfolding(crate::specs::Slots::written_entry))]
+pub fn written(slot: u16, mas: &Mas) -> Entry
+    ensures entry { result ≡ written_entry slot mas.now }
+    ensures kept { IsKept slot result }
+{
+    if is_of_tlb0(slot) {
+        for_tlb0(from_mas(mas))
+    } else {
+        for_tlb1(from_mas(mas))
+    }
+}
+
+/// The area that is mapped when a program starts.
+#[tactic(auto, unfolding(crate::specs::Slots::initial_area))]
+pub fn initial() -> Entry
+    ensures { result ≡ initial_area }
+{
+    from_mas(&INITIAL)
+}

@@ -1,0 +1,8 @@
+use Rattle.partition.proofs.Reached.{stay_apart, stay_sound}
+use Rattle.partition.proofs.laws.translations_stay_apart.Goals as goal
+
+pub returns-clause-apart : goal.returns-clause-apart
+returns-clause-apart c = stay_apart
+
+pub returns-clause-sound : goal.returns-clause-sound
+returns-clause-sound c = stay_sound

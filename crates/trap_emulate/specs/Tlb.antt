@@ -1,0 +1,136 @@
+-- The instructions on translations, and what a TLB error leaves in the MAS registers (Power ISA 2.06, Book III-E, chapter 6).
+use Rattle.std.specs.Prelude.{ℕ, ◌+◌, ◌-◌, ◌/◌, ◌%◌, ◌^◌, ◌==◌, Bool, true, not, List, [], Option, Some, None, if◌then◌else◌}
+use Rattle.insn.specs.Fields.{ra_field, rb_field, invalidate_kind}
+use Rattle.guest_regs.specs.Registers.{Registers, gpr_of, advanced}
+use Rattle.mas.specs.declared.registers.Mas.{Mas}
+use Rattle.mas.specs.declared.entry.Entry.{Entry}
+use Rattle.mas.specs.Fields.{tlbsel_field, nv_field, spid_field, sas_bit, with_nv, with_tlbsel_esel}
+use Rattle.mas.specs.Translation.{told, missed}
+use Rattle.guest_tlb.specs.Slots.{is_in_tlb0, entry_at, named_slot, search_of}
+use Rattle.guest_tlb.specs.Sweep.{swept, ended_slots, ends_all, ends_pid, ends_address, after_write, ended_by_write}
+
+-- the MAS registers of a core
+abbrev pub mas_of : Registers → Mas
+mas_of registers = record {
+  m0 = registers.mas0;
+  m1 = registers.mas1;
+  m2 = registers.mas2;
+  m3 = registers.mas3;
+  m4 = registers.mas4;
+  m6 = registers.mas6;
+  m7 = registers.mas7;
+}
+
+unfoldable pub with_mas : Mas → Registers → Registers
+with_mas mas registers = record registers {
+  mas0 = mas.m0;
+  mas1 = mas.m1;
+  mas2 = mas.m2;
+  mas3 = mas.m3;
+  mas4 = mas.m4;
+  mas6 = mas.m6;
+  mas7 = mas.m7;
+}
+
+-- What a privileged instruction leaves: the registers, the slots of the translations, the next-victim counter, and which slots it
+-- took or ended, in rising order.
+pub record Emulated : Type 0 where
+  pub registers : Registers
+  pub slots : List Entry
+  pub nv : ℕ
+  pub ended : List ℕ
+
+-- an instruction that leaves the translations and the counter
+abbrev pub kept : List Entry → ℕ → Registers → Emulated
+kept slots nv registers = record { registers = registers; slots = slots; nv = nv; ended = [] }
+
+-- (RA|0) + (RB), the address that a search or an invalidation is for
+abbrev pub operand_address : ℕ → Registers → ℕ
+operand_address word registers =
+    ((if ra_field word == 0 then 0 else gpr_of registers (ra_field word)) + gpr_of registers (rb_field word)) % 2 ^ 32
+
+-- ---- tlbwe
+
+-- a write of TLB0 tells which way the next miss is to replace
+abbrev pub next_victim : Mas → ℕ → ℕ
+next_victim mas nv = if tlbsel_field mas.m0 == 0 then nv_field mas.m0 % 4 else nv
+
+unfoldable pub tlb_write : Registers → List Entry → ℕ → Emulated
+tlb_write registers slots nv = record {
+  registers = advanced registers;
+  slots = after_write (mas_of registers) slots;
+  nv = next_victim (mas_of registers) nv;
+  ended = ended_by_write (mas_of registers) slots;
+}
+
+-- ---- tlbre
+
+-- what a slot has, or zeros where no slot is named
+abbrev pub told_of : Option ℕ → List Entry → Mas → Mas
+told_of None slots mas = record mas { m1 = 0; m2 = 0; m3 = 0; m7 = 0 }
+told_of (Some slot) slots mas = told (entry_at slots slot) mas
+
+-- NV tells the counter
+abbrev pub telling_next : ℕ → Mas → Mas
+telling_next nv mas = record mas { m0 = with_nv nv mas.m0 }
+
+unfoldable pub tlb_read : Registers → List Entry → ℕ → Registers
+tlb_read registers slots nv =
+    let mas : Mas = mas_of registers in
+    advanced (with_mas (telling_next nv (told_of (named_slot mas) slots mas)) registers)
+
+-- ---- tlbsx
+
+-- TLBSEL and ESEL of a slot
+abbrev pub naming : ℕ → Mas → Mas
+naming slot mas = record mas {
+  m0 = if is_in_tlb0 slot then with_tlbsel_esel 0 (slot % 4) mas.m0 else with_tlbsel_esel 1 (slot - 512) mas.m0;
+}
+
+-- A search that finds nothing tells what a TLB error there would, but as a dead translation, and what it was for stays.
+abbrev pub not_found : ℕ → ℕ → Mas → Mas
+not_found ea nv mas =
+    let told : Mas = missed mas (spid_field mas.m6) (sas_bit mas.m6) ea nv in
+    record told { m1 = told.m1 % 2 ^ 31; m6 = mas.m6 }
+
+abbrev pub found_by : Option ℕ → ℕ → List Entry → ℕ → Mas → Mas
+found_by (Some slot) ea slots nv mas = telling_next nv (told (entry_at slots slot) (naming slot mas))
+found_by None ea slots nv mas = not_found ea nv mas
+
+unfoldable pub tlb_search : ℕ → Registers → List Entry → ℕ → Registers
+tlb_search ea registers slots nv =
+    let mas : Mas = mas_of registers in
+    advanced (with_mas (found_by (search_of (sas_bit mas.m6) (spid_field mas.m6) ea slots) ea slots nv mas) registers)
+
+-- ---- tlbilx and tlbivax
+
+-- the translations that pass the test end
+abbrev pub invalidated : (ℕ → Entry → Bool) → Registers → List Entry → ℕ → Emulated
+invalidated ends registers slots nv = record {
+  registers = advanced registers;
+  slots = swept ends slots;
+  nv = nv;
+  ended = ended_slots ends slots;
+}
+
+-- By T: all; those of SPID; those of SPID with the address. T of 2 is no instruction.
+unfoldable pub tlb_invalidate_local : ℕ → Registers → List Entry → ℕ → Emulated
+tlb_invalidate_local word registers slots nv =
+    if invalidate_kind word == 0 then invalidated (ends_all true true) registers slots nv
+    else if invalidate_kind word == 1 then invalidated (ends_pid (spid_field registers.mas6)) registers slots nv
+    else if invalidate_kind word == 3
+    then invalidated (ends_address (operand_address word registers) (Some (spid_field registers.mas6)) true true) registers slots nv
+    else kept slots nv registers
+
+-- Bits of the address say which TLB, and whether all of it is meant.
+unfoldable pub tlb_invalidate : ℕ → Registers → List Entry → ℕ → Emulated
+tlb_invalidate ea registers slots nv =
+    let second = ea / 2 ^ 3 % 2 == 1 in
+    if ea / 2 ^ 2 % 2 == 1 then invalidated (ends_all (not second) second) registers slots nv
+    else invalidated (ends_address ea None (not second) second) registers slots nv
+
+-- ---- TLB errors
+
+-- a miss of the running process in a space
+unfoldable pub missing : ℕ → Bool → ℕ → Registers → Registers
+missing nv space ea registers = with_mas (missed (mas_of registers) registers.pid space ea nv) registers

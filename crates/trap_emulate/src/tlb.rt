@@ -1,0 +1,237 @@
+//! The instructions on translations, and what a TLB error leaves in the MAS registers.
+
+ghost use Rattle.std.specs.Prelude.{◌≡◌, ℕ, ◌<◌};
+ghost use Rattle.mas.specs.Fields.{sas_bit, spid_field};
+ghost use Rattle.mas.specs.Translation.{told, missed};
+ghost use Rattle.guest_tlb.specs.Slots.{entry_at, named_slot, search_of};
+ghost use Rattle.trap_emulate.specs.Tlb.{mas_of, with_mas, operand_address, next_victim, told_of, telling_next, naming, not_found, found_by, missing, tlb_write, tlb_read, tlb_search, tlb_invalidate_local, tlb_invalidate};
+
+use crate::mmu::Mmu;
+use arrayvec::ArrayVec;
+use guest_regs::Regs;
+use guest_tlb::{Dead, slot_of};
+use insn::Insn;
+use mas::{
+    Mas, miss_mas, next_victim, search_pid, search_space, tlb_select, to_mas, with_next_victim,
+    with_place,
+};
+
+/// The first slot of TLB1.
+const FIRST_OF_TLB1: u16 = 512;
+
+/// The ways of a set of TLB0.
+const WAYS: u16 = 4;
+
+/// V of MAS1.
+const VALID: u32 = 0x8000_0000;
+
+/// The bit of an invalidation's address that chooses TLB1.
+const SECOND_TLB: u32 = 8;
+
+/// The bit of an invalidation's address that asks for all of a TLB.
+const WHOLE_TLB: u32 = 4;
+
+/// The MAS registers of a core.
+fn mas_from(regs: &Regs) -> Mas
+    ensures { result ≡ mas_of regs.now }
+{
+    Mas {
+        m0: regs.mas0(),
+        m1: regs.mas1(),
+        m2: regs.mas2(),
+        m3: regs.mas3(),
+        m4: regs.mas4(),
+        m6: regs.mas6(),
+        m7: regs.mas7(),
+    }
+}
+
+/// Gives a core its MAS registers.
+#[tactic(auto, using(crate::proofs::Upper::upper_bits), unfolding(crate::specs::Tlb::with_mas))]
+fn set_mas(regs: &mut Regs, mas: &Mas)
+    requires { mas.now.m7 < 16 }
+    ensures { regs.new ≡ with_mas mas.now regs.old }
+{
+    regs.set_mas0(mas.m0);
+    regs.set_mas1(mas.m1);
+    regs.set_mas2(mas.m2);
+    regs.set_mas3(mas.m3);
+    regs.set_mas4(mas.m4);
+    regs.set_mas6(mas.m6);
+    regs.set_mas7(mas.m7);
+}
+
+/// (RA|0) + (RB).
+pub fn operand_address_of(insn: &Insn, regs: &Regs) -> u32
+    ensures { result ≡ operand_address insn.now.word regs.now }
+{
+    let base = match insn.ra() {
+        0 => 0,
+        number => regs.gpr(number as u8),
+    };
+    base.wrapping_add(regs.gpr(insn.rb() as u8))
+}
+
+/// The counter after a write by these registers.
+fn victim_after(mas: &Mas, nv: u8) -> u8
+    ensures { result ≡ next_victim mas.now nv }
+{
+    if tlb_select(mas) == 0 {
+        (next_victim(mas) % WAYS) as u8
+    } else {
+        nv
+    }
+}
+
+/// Writes a translation (`tlbwe`).
+#[tactic(auto, unfolding(crate::specs::Tlb::tlb_write))]
+pub fn write_tlb(regs: &mut Regs, mmu: &mut Mmu) -> Dead
+    ensures { tlb_write regs.old mmu.old.tlb mmu.old.nv
+        ≡ record { registers = regs.new; slots = mmu.new.tlb; nv = mmu.new.nv; ended = result.items } }
+{
+    let mas = mas_from(regs);
+    let dead = mmu.tlb.write(&mas);
+    mmu.nv = victim_after(&mas, mmu.nv);
+    regs.advance();
+    dead
+}
+
+/// What the registers tell of a slot.
+#[tactic(auto, using(crate::proofs::Upper::told_upper))]
+fn tell_slot(mas: &Mas, mmu: &Mmu, slot: u16) -> Mas
+    requires { slot < 576 }
+    ensures told { result ≡ told (entry_at mmu.now.tlb slot) mas.now }
+    ensures upper { result.m7 < 16 }
+{
+    to_mas(&mmu.tlb.read(slot), mas)
+}
+
+/// What the registers tell of the slot that they name.
+fn tell_named(mas: &Mas, mmu: &Mmu) -> Mas
+    ensures told { result ≡ told_of (named_slot mas.now) mmu.now.tlb mas.now }
+    ensures upper { result.m7 < 16 }
+{
+    match slot_of(mas) {
+        Some(slot) => tell_slot(mas, mmu, slot),
+        None => Mas {
+            m1: 0,
+            m2: 0,
+            m3: 0,
+            m7: 0,
+            ..*mas
+        },
+    }
+}
+
+/// Reads a translation (`tlbre`).
+#[tactic(auto, unfolding(crate::specs::Tlb::tlb_read))]
+pub fn read_tlb(regs: &mut Regs, mmu: &Mmu)
+    ensures { regs.new ≡ tlb_read regs.old mmu.now.tlb mmu.now.nv }
+{
+    let mas = mas_from(regs);
+    let told = tell_named(&mas, mmu);
+    set_mas(regs, &with_next_victim(&told, mmu.nv));
+    regs.advance();
+}
+
+/// The registers with the place of a slot.
+fn name_slot(mas: &Mas, slot: u16) -> Mas
+    requires { slot < 576 }
+    ensures { result ≡ naming slot mas.now }
+{
+    if slot < FIRST_OF_TLB1 {
+        with_place(mas, 0, slot % WAYS)
+    } else {
+        with_place(mas, 1, slot - FIRST_OF_TLB1)
+    }
+}
+
+/// What the registers tell of a slot that a search found.
+fn tell_found(mas: &Mas, mmu: &Mmu, slot: u16) -> Mas
+    requires { slot < 576 }
+    ensures told { result ≡ telling_next mmu.now.nv (told (entry_at mmu.now.tlb slot) (naming slot mas.now)) }
+    ensures upper { result.m7 < 16 }
+{
+    let told = tell_slot(&name_slot(mas, slot), mmu, slot);
+    with_next_victim(&told, mmu.nv)
+}
+
+/// What the registers tell where a search found nothing.
+#[tactic(auto, unfolding(mas::specs::Translation::missed))]
+fn tell_nothing(mas: &Mas, nv: u8, ea: u32) -> Mas
+    ensures told { result ≡ not_found ea nv mas.now }
+    ensures upper { result.m7 < 16 }
+{
+    let missed = miss_mas(mas, search_pid(mas), search_space(mas), ea, nv);
+    Mas {
+        m1: missed.m1 % VALID,
+        m6: mas.m6,
+        ..missed
+    }
+}
+
+/// What the registers tell after a search.
+fn tell_search(mas: &Mas, mmu: &Mmu, ea: u32) -> Mas
+    ensures told { result ≡ found_by (search_of (sas_bit mas.now.m6) (spid_field mas.now.m6) ea mmu.now.tlb) ea mmu.now.tlb mmu.now.nv mas.now }
+    ensures upper { result.m7 < 16 }
+{
+    match mmu.tlb.search(search_space(mas), search_pid(mas), ea) {
+        Some(slot) => tell_found(mas, mmu, slot),
+        None => tell_nothing(mas, mmu.nv, ea),
+    }
+}
+
+/// Searches for the translation of an effective address (`tlbsx`).
+#[tactic(auto, unfolding(crate::specs::Tlb::tlb_search))]
+pub fn search_tlb(ea: u32, regs: &mut Regs, mmu: &Mmu)
+    ensures { regs.new ≡ tlb_search ea regs.old mmu.now.tlb mmu.now.nv }
+{
+    let mas = mas_from(regs);
+    let told = tell_search(&mas, mmu, ea);
+    set_mas(regs, &told);
+    regs.advance();
+}
+
+/// Ends translations of this core (`tlbilx`): all, those of a PID, or those of a PID with an effective address.
+#[tactic(auto, unfolding(crate::specs::Tlb::tlb_invalidate_local))]
+pub fn invalidate_local(insn: &Insn, regs: &mut Regs, mmu: &mut Mmu) -> Dead
+    ensures { tlb_invalidate_local insn.now.word regs.old mmu.old.tlb mmu.old.nv
+        ≡ record { registers = regs.new; slots = mmu.new.tlb; nv = mmu.new.nv; ended = result.items } }
+{
+    let mas = mas_from(regs);
+    let pid = search_pid(&mas);
+    let ea = operand_address_of(insn, regs);
+    let dead = match insn.invalidate_kind() {
+        0 => mmu.tlb.inval_all(true, true),
+        1 => mmu.tlb.inval_pid(pid),
+        3 => mmu.tlb.inval_ea(ea, Some(pid), true, true),
+        _ => return ArrayVec::new(),
+    };
+    regs.advance();
+    dead
+}
+
+/// Ends translations of one TLB (`tlbivax`): all, or those with the effective address.
+#[tactic(auto, unfolding(crate::specs::Tlb::tlb_invalidate))]
+pub fn invalidate(ea: u32, regs: &mut Regs, mmu: &mut Mmu) -> Dead
+    ensures { tlb_invalidate ea regs.old mmu.old.tlb mmu.old.nv
+        ≡ record { registers = regs.new; slots = mmu.new.tlb; nv = mmu.new.nv; ended = result.items } }
+{
+    let second = ea / SECOND_TLB % 2 == 1;
+    let dead = if ea / WHOLE_TLB % 2 == 1 {
+        mmu.tlb.inval_all(!second, second)
+    } else {
+        mmu.tlb.inval_ea(ea, None, !second, second)
+    };
+    regs.advance();
+    dead
+}
+
+/// Tells in the MAS registers that no translation matches an effective address in a space, for the running process.
+#[tactic(auto, unfolding(crate::specs::Tlb::missing, mas::specs::Translation::missed))]
+pub fn miss(nv: u8, space: bool, ea: u32, regs: &mut Regs)
+    ensures { regs.new ≡ missing nv space ea regs.old }
+{
+    let mas = mas_from(regs);
+    set_mas(regs, &miss_mas(&mas, regs.pid() as u16, space, ea, nv));
+}
