@@ -1,19 +1,14 @@
 -- A hypercall that was not done leaves the rest as it was.
-use Rattle.std.proofs.Common.{◌≡◌, ◌≢◌, ℕ, ◌<◌, Bool, true, false, cond, ◌&&◌, length, length-set, set, get_or-set_other, get_or-set_same, refl, sym, ap, subst, ◌∙◌, arith}
-use Rattle.guest_regs.specs.Registers.{Registers, gpr_of, advanced}
-use Rattle.core_step.specs.Step as core
-use Rattle.trap_emulate.specs.Clock.{is_decrementer_pending}
-use Rattle.trap_emulate.specs.Entry.{are_interrupts_enabled}
+use Rattle.std.proofs.Common.{◌≡◌, ℕ, ◌<◌, Bool, true, false, cond, length, length-set, set, get_or-set_other, get_or-set_same, refl, sym, ap, subst, ◌∙◌, arith}
+use Rattle.guest_regs.specs.Registers.{gpr_of, advanced}
 use Rattle.partition.specs.declared.call.Call.{Call}
 use Rattle.partition.specs.declared.call.Call.TheVariants as call
 use Rattle.partition.specs.declared.call.Status.{Status}
 use Rattle.partition.specs.declared.call.Status.TheVariants as status
 use Rattle.partition.specs.Hypercall.{answered, code_of, call_of}
 use Rattle.partition.specs.Machine.{Machine}
-use Rattle.partition.specs.Translated.{lookup}
-use Rattle.partition.specs.Step.{Stepped, Act, Unbuilt, refused, sending, send, served, handled, instruction, acted, begun, unless_unbuilt, step}
-use Rattle.core_step.proofs.Unchanged.{kept}
-use Rattle.partition.proofs.Steps.{woken_back}
+use Rattle.partition.specs.Step.{Stepped, refused, sending, send, served, begun, step}
+use Rattle.partition.proofs.Calls.{whole, instructs, hypercall, general}
 use Rattle.partition.specs.Refusal.{KeepsMost, RefusesQuietly, RefusalsAreQuiet}
 
 -- nothing has changed
@@ -82,48 +77,10 @@ quiet-served call.ByteChannelSend machine all = quiet-send machine all
 quiet-served call.Unlisted machine all = quiet-refused status.Unimplemented machine
 quiet-served _ machine all = quiet-same machine
 
--- ---- the step that comes to it
-
--- a step whose act is built is what was done
-built-act : (act : Act) (done : Stepped) (before : Machine) → (act ≡ Unbuilt → ⊥) → unless_unbuilt act done before ≡ done
-built-act Unbuilt done before h = absurd (h refl)
-built-act _ done before h = refl
-
-unbuilt-act : (act : Act) (done : Stepped) (before : Machine) → act ≡ Unbuilt → (unless_unbuilt act done before).act ≡ Unbuilt
-unbuilt-act Unbuilt done before h = refl
-unbuilt-act _ done before h = absurd (cc)
-
-whole : (machine : Machine) → (step machine).act ≢ Unbuilt → step machine ≡ acted (begun machine)
-unfolding step
-whole machine built = built-act (acted (begun machine)).act (acted (begun machine)) machine (λ e. built (unbuilt-act _ (acted (begun machine)) machine e))
-
-on_false : (b : Bool) (x y : Stepped) → b ≡ false → cond b x y ≡ y
-on_false false x y h = refl
-on_false true x y h = absurd (cc)
-
-instructs : (machine : Machine) → (is_decrementer_pending machine.registers && are_interrupts_enabled machine.registers) ≡ false → machine.registers.idle ≡ false → acted machine ≡ instruction machine
-unfolding acted
-instructs machine undisturbed awake = on_false _ _ _ undisturbed ∙ on_false _ _ _ awake
-
-hypercall : (machine : Machine) → (core.stepped (lookup machine.translations) machine.registers machine.memory).answer ≡ core.Hcall
-    → instruction machine ≡ served (call_of (gpr_of machine.registers 11)) machine
-unfolding instruction handled
-hypercall machine e =
-    let done : core.Stepped = core.stepped (lookup machine.translations) machine.registers machine.memory in
-    let stays : (done.registers ≡ machine.registers) × (done.memory ≡ machine.memory) =
-    subst (λ a. core.KeepsUnlessDone a machine.registers done.registers machine.memory done.memory) e (kept (lookup machine.translations) machine.registers machine.memory) in
-    ap (λ a. handled a (record machine { registers = done.registers; memory = done.memory })) e
-    ∙ ap (λ r. handled core.Hcall (record machine { registers = r; memory = done.memory })) stays.0
-    ∙ ap (λ m. handled core.Hcall (record machine { memory = m })) stays.1
-
-general : (machine : Machine) → (begun machine).registers.gpr ≡ machine.registers.gpr
-unfolding begun
-general machine = ap (λ (r : Registers). r.gpr) (woken_back machine.registers)
-
 pub quiet_refusals : RefusalsAreQuiet
-quiet_refusals machine all next =
+quiet_refusals machine all next built =
     let ready : Machine = begun machine in
     let serves : step machine ≡ served (call_of (gpr_of ready.registers 11)) ready =
-    whole machine next.built ∙ instructs ready next.undisturbed next.awake ∙ hypercall ready next.call in
+    whole machine built ∙ instructs ready next.undisturbed next.awake ∙ hypercall ready next.call in
     let registers : length ready.registers.gpr ≡ 32 = ap length (general machine) ∙ all in
     subst (λ (s : Stepped). RefusesQuietly ready s.after) (sym serves) (quiet-served _ ready registers)

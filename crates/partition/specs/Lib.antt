@@ -3,5 +3,6 @@ pub mod Machine
 pub mod Translated
 pub mod Step
 pub mod Event
+pub mod Calling
 pub mod Refusal
 pub mod Reached

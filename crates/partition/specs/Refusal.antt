@@ -1,19 +1,9 @@
 -- What a hypercall that was not done leaves as it was.
-use Rattle.std.specs.Prelude.{◌≡◌, ◌≢◌, ℕ, [], false, ◌&&◌, length}
+use Rattle.std.specs.Prelude.{◌≡◌, ◌≢◌, ℕ, [], length}
 use Rattle.guest_regs.specs.Registers.{Registers, gpr_of}
-use Rattle.core_step.specs.Step as core
-use Rattle.trap_emulate.specs.Clock.{is_decrementer_pending}
-use Rattle.trap_emulate.specs.Entry.{are_interrupts_enabled}
 use Rattle.partition.specs.Machine.{Machine}
-use Rattle.partition.specs.Translated.{lookup}
+use Rattle.partition.specs.Calling.{CallsNext}
 use Rattle.partition.specs.Step.{Unbuilt, begun, step}
-
--- The step comes to a hypercall whose service is built: no interrupt is entered, the core isn't waiting, and a hypercall stands there.
-pub record CallsNext (machine : Machine) : Type 0 where
-  pub undisturbed : (is_decrementer_pending (begun machine).registers && are_interrupts_enabled (begun machine).registers) ≡ false
-  pub awake : (begun machine).registers.idle ≡ false
-  pub call : (core.stepped (lookup (begun machine).translations) (begun machine).registers (begun machine).memory).answer ≡ core.Hcall
-  pub built : (step machine).act ≢ Unbuilt
 
 -- the registers without the general ones and the PC
 abbrev pub other_registers : Registers → Registers
@@ -40,7 +30,8 @@ abbrev pub RefusesQuietly : Machine → Machine → Type 0
 RefusesQuietly old new =
     gpr_of new.registers 3 ≢ 0 → KeepsMost old new × (gpr_of new.registers 3 ≢ 4 → KeepsRest old new)
 
--- So it is of each machine that calls the hypervisor next, whose step has begun: it is counted, and its time has passed.
+-- So it is of each machine that calls the hypervisor next, for a service that is built, whose step has begun: it is counted, and its
+-- time has passed.
 abbrev pub RefusalsAreQuiet : Type 0
 RefusalsAreQuiet =
-    (machine : Machine) → length machine.registers.gpr ≡ 32 → CallsNext machine → RefusesQuietly (begun machine) (step machine).after
+    (machine : Machine) → length machine.registers.gpr ≡ 32 → CallsNext machine → (step machine).act ≢ Unbuilt → RefusesQuietly (begun machine) (step machine).after

@@ -1,12 +1,13 @@
 //! The built-in machine.
 
-ghost use Rattle.std.specs.Prelude.{◌≡◌, ℕ, ◌+◌, ◌-◌, ◌<◌, ◌≤◌, false, [], ◌∷◌, length, map, IfOk, IsTrue};
+ghost use Rattle.std.specs.Prelude.{◌≡◌, ℕ, ◌+◌, ◌-◌, ◌<◌, ◌≤◌, ◌↔◌, false, [], ◌∷◌, length, map, IfOk, IsTrue};
 ghost use Rattle.guest_regs.specs.Registers.{gpr_of};
 ghost use Rattle.core_step.specs.Step as core;
 ghost use Rattle.partition.specs.Hypercall.{call_of};
 ghost use Rattle.partition.specs.Machine.{loaded, boot, port_of};
 ghost use Rattle.partition.specs.Step.{Nothing, quiet, refused, sending, send, served, entered, checked, missed, privileged, handled, instruction, begun, acted, step, order_syndrome};
 ghost use Rattle.trap_emulate.specs.Entry.{may_enter};
+ghost use Rattle.partition.specs.Calling.{IsUnbuilt};
 ghost use Rattle.partition.specs.Event.{apply, act_of, HasBytes, IsCounted, KeepsUnbuilt, TellsFault};
 
 use crate::call::{Call, Status};
@@ -130,6 +131,7 @@ impl Lone {
         ensures bytes { HasBytes result }
         ensures counted { IsCounted result self.old self.new }
         ensures fault { TellsFault result self.new.faulted }
+        ensures unbuilt { result ≡ LoneStep.NotBuilt ↔ IsUnbuilt self.old }
     {
         let clocks = Clocks::of(self.core.regs());
         self.begin();
