@@ -108,7 +108,7 @@ struct Ending {
     registers: &'static [(u8, u32)],
 }
 
-const ENDINGS: [Ending; 10] = [
+const ENDINGS: [Ending; 9] = [
     Ending {
         image: &CLOCK,
         steps: 17,
@@ -201,11 +201,6 @@ const ENDINGS: [Ending; 10] = [
             (29, 0x0080_0000),
             (30, 0),
         ],
-    },
-    Ending {
-        image: &REFUSED,
-        steps: 202,
-        registers: &[(29, 0), (30, 18)],
     },
     Ending {
         image: &WRAP,

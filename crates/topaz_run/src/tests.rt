@@ -75,6 +75,74 @@ const UNBACKED: [u32; 2] = [0x3C60_0001, 0x8083_0000];
 // Asks how many bytes wait, which no service tells yet.
 const POLL: [u32; 3] = [0x3D60_0001, 0x616B_0003, 0x4400_0022];
 
+// Has a user program try all that is privileged, and sends how often it was refused and which bits ESR had but that of
+// privilege.
+const REFUSED: [u32; 63] = [
+    0x4800_0060, // b 60
+    0x6000_0000, // nop
+    0x6000_0000, // nop
+    0x6000_0000, // nop
+    0x7D5E_0AA6, // mfesr r10
+    0x3D60_0400, // lis r11,1024
+    0x7D4A_5A78, // xor r10,r10,r11
+    0x7FBD_5378, // or r29,r29,r10
+    0x3BDE_0001, // addi r30,r30,1
+    0x7D5A_02A6, // mfsrr0 r10
+    0x394A_0004, // addi r10,r10,4
+    0x7D5A_03A6, // mtsrr0 r10
+    0x4C00_0064, // rfi
+    0x6000_0000, // nop
+    0x6000_0000, // nop
+    0x6000_0000, // nop
+    0x7FC5_F378, // mr r5,r30
+    0x7FA6_EB78, // mr r6,r29
+    0x3860_0001, // li r3,1
+    0x3880_0008, // li r4,8
+    0x3D60_0001, // lis r11,1
+    0x616B_0001, // ori r11,r11,1
+    0x4400_0022, // sc 1
+    0x4800_0000, // b 5c
+    0x3860_0010, // li r3,16
+    0x7C76_63A6, // mtivor6 r3
+    0x3860_0040, // li r3,64
+    0x7C78_63A6, // mtivor8 r3
+    0x3C60_1001, // lis r3,4097
+    0x7C70_9BA6, // mtspr 624,r3
+    0x3C60_8000, // lis r3,-32768
+    0x6063_0100, // ori r3,r3,256
+    0x7C71_9BA6, // mtspr 625,r3
+    0x3C60_1000, // lis r3,4096
+    0x7C72_9BA6, // mtspr 626,r3
+    0x3860_003F, // li r3,63
+    0x7C73_9BA6, // mtspr 627,r3
+    0x7C00_07A4, // tlbwe
+    0x3C60_1000, // lis r3,4096
+    0x6063_00B0, // ori r3,r3,176
+    0x7C7A_03A6, // mtsrr0 r3
+    0x3860_4000, // li r3,16384
+    0x7C7B_03A6, // mtsrr1 r3
+    0x4C00_0064, // rfi
+    0x4C00_0064, // rfi
+    0x4C00_0066, // rfci
+    0x4C00_004C, // rfmci
+    0x7C60_00A6, // mfmsr r3
+    0x7C60_0124, // mtmsr r3
+    0x7C60_0106, // wrtee r3
+    0x7C00_8146, // wrteei 1
+    0x7C00_0024, // tlbilxlpid
+    0x7C40_0024, // tlbilx 2,0,r0
+    0x7C00_1E24, // tlbivax 0,r3
+    0x7C00_1F24, // tlbsx 0,r3
+    0x7C00_0764, // tlbre
+    0x7C00_07A4, // tlbwe
+    0x7C00_046C, // tlbsync
+    0x7C00_1BAC, // dcbi 0,r3
+    0x7C7A_02A6, // mfsrr0 r3
+    0x7C7A_03A6, // mtsrr0 r3
+    0x4400_0022, // sc 1
+    0x4400_0002, // sc
+];
+
 // Runs a user program in pages that are translated as they are missed, and sends "Hi" for it: examples/user.
 const USER: [u32; 36] = [
     0x3860_0040, // li r3,64
@@ -245,6 +313,12 @@ fn images_write_what_was_worked_out(rt: HostRuntime) -> Result<(), Fail> {
             "50",
             Status::Ok,
             "guest 42 sent 1 4869\nend guest running 50\nconsole con 2 0 0\n",
+        ),
+        (
+            REFUSED.as_slice(),
+            "210",
+            Status::Ok,
+            "guest 209 sent 1 0000001200000000\nend guest running 210\nconsole con 8 0 0\n",
         ),
         (
             POLL.as_slice(),
