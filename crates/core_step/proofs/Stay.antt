@@ -17,10 +17,10 @@ set_size (x ∷ xs) (suc i) new same exists = ap (λ ns. length x ∷ ns) (set_s
 pub same_sizes : (extents : List (List ℕ)) (extent at : ℕ) (bytes : List ℕ) → HasRange extents extent at (length bytes) → map length (after_write extents extent at bytes) ≡ map length extents
 same_sizes extents extent at bytes range = set_size extents extent _ (written_size at bytes (extent_at extents extent) range.1) range.0
 
--- the ranges of one extent of 4 KiB
-first_size : (x : List ℕ) (xs : List (List ℕ)) → length x ∷ map length xs ≡ 4096 ∷ [] → length x ≡ 4096
+-- the ranges of one extent of 16 KiB
+first_size : (x : List ℕ) (xs : List (List ℕ)) → length x ∷ map length xs ≡ 16384 ∷ [] → length x ≡ 16384
 first_size x xs e = cc
 
-pub first_page : (memory : List (List ℕ)) (at count : ℕ) → map length memory ≡ 4096 ∷ [] → at + count ≤ 4096 → HasRange memory 0 at count
+pub first_page : (memory : List (List ℕ)) (at count : ℕ) → map length memory ≡ 16384 ∷ [] → at + count ≤ 16384 → HasRange memory 0 at count
 first_page [] at count e fits = absurd cc
 first_page (x ∷ xs) at count e fits = (omega arith, omega (arith, first_size x xs e))

@@ -11,7 +11,7 @@ use Rattle.core_step.specs.declared.access.Place.{Place}
 use Rattle.core_step.specs.declared.access.Fault.{Fault}
 use Rattle.core_step.specs.declared.access.Fault.TheVariants.{Missing, Denied, Reversed}
 use Rattle.core_step.specs.Pages.{Lookup}
-use Rattle.core_step.specs.Step.{Answer, Stepped, KeepsUnlessDone, unchanged, load_done, store_done, conditional_done, access_done, done_unless, accessed, performed, instruction_done, fetched, stepped, holds, first_block, is_aligned, data_fault, Align, Program, Priv, privileged}
+use Rattle.core_step.specs.Step.{Answer, Stepped, KeepsUnlessDone, unchanged, load_done, store_done, conditional_done, access_done, done_unless, accessed, performed, instruction_done, fetched, stepped, holds, first_granule, is_aligned, data_fault, Align, Program, Priv, privileged}
 
 record Keeps (done : Stepped) (registers : Registers) (memory : List (List ℕ)) : Type 0 where
   kept : KeepsUnlessDone done.answer registers done.registers memory done.memory
@@ -27,7 +27,7 @@ by_form _ one other registers memory h k = k
 
 conditional_keeps : (insn : Insn) (places : List Place) (registers : Registers) (memory : List (List ℕ)) → Keeps (conditional_done insn places registers memory) registers memory
 unfolding conditional_done
-conditional_keeps insn places registers memory = by_choice (holds registers (first_block places)) _ _ registers memory (record { kept = tt }) (record { kept = tt })
+conditional_keeps insn places registers memory = by_choice (holds registers (first_granule places)) _ _ registers memory (record { kept = tt }) (record { kept = tt })
 
 load_keeps : (insn : Insn) (access : Access) (places : List Place) (registers : Registers) (memory : List (List ℕ)) → Keeps (load_done insn access places registers memory) registers memory
 unfolding load_done

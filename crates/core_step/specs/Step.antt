@@ -80,27 +80,27 @@ data_fault store (Missing ea) = MissData ea store
 data_fault store (Denied ea) = StorageData ea store false
 data_fault store (Reversed ea) = StorageData ea store true
 
--- the first byte of the block of 64 that a logical address is in
-abbrev pub block_of : ℕ → ℕ
-block_of logical = logical - logical % 64
+-- the reservation granule of a logical address (Power ISA 2.06, Book II): the block of 64 bytes that it lies in, by its first byte
+abbrev pub granule_of : ℕ → ℕ
+granule_of logical = logical - logical % 64
 
-abbrev pub first_block : List Place → ℕ
-first_block [] = 0
-first_block (place ∷ places) = block_of place.logical
+abbrev pub first_granule : List Place → ℕ
+first_granule [] = 0
+first_granule (place ∷ places) = granule_of place.logical
 
 abbrev pub holds : Registers → ℕ → Bool
-holds registers block = elim registers.reserved as (λ _. Bool) [ None ↦ false | Some held ↦ held == block ]
+holds registers granule = elim registers.reserved as (λ _. Bool) [ None ↦ false | Some held ↦ held == granule ]
 
 abbrev pub with_reserved : Option ℕ → Registers → Registers
-with_reserved block registers = record registers { reserved = block }
+with_reserved granule registers = record registers { reserved = granule }
 
--- a load whose bytes lie at these places; lwarx keeps its block
+-- a load whose bytes lie at these places; lwarx keeps its granule
 unfoldable pub load_done : Insn → Access → List Place → Registers → List (List ℕ) → Stepped
 load_done insn access places registers memory = record {
   answer = Retired [];
   registers =
       let loaded = finished_by (transfer_of insn.op) insn.word (loaded_from memory places) registers in
-      elim access.form as (λ _. Registers) [ form.Reserve ↦ with_reserved (Some (first_block places)) loaded | _ ↦ loaded ];
+      elim access.form as (λ _. Registers) [ form.Reserve ↦ with_reserved (Some (first_granule places)) loaded | _ ↦ loaded ];
   memory = memory;
 }
 
@@ -112,10 +112,10 @@ store_done insn places registers memory = record {
   memory = stored_to memory places (stored_by (transfer_of insn.op) insn.word registers);
 }
 
--- stwcx.: it stores where its block is reserved, tells whether it did, and the reservation ends
+-- stwcx.: it stores where its granule is reserved, tells whether it did, and the reservation ends
 unfoldable pub conditional_done : Insn → List Place → Registers → List (List ℕ) → Stepped
 conditional_done insn places registers memory =
-    if holds registers (first_block places) then record {
+    if holds registers (first_granule places) then record {
       answer = Retired (ranges_of places);
       registers = with_reserved None (finished_by (transfer_of insn.op) insn.word (1 ∷ []) registers);
       memory = stored_to memory places (stored_by (transfer_of insn.op) insn.word registers);

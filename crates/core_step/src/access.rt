@@ -1,3 +1,5 @@
+//! The pages of an access, in order of address, and its first fault.
+
 ghost use Rattle.std.specs.Prelude.{◌≡◌, ◌+◌, ◌%◌, ◌<◌, ◌≤◌, IfOk, IfSome, MatchResult};
 ghost use Rattle.core_step.specs.Pages.{IsBacked, AreBacked};
 ghost use Rattle.core_step.specs.Access as spec;

@@ -1,3 +1,5 @@
+//! A core: its registers, and the one call that does an instruction.
+
 ghost use Rattle.std.specs.Prelude.{◌≡◌};
 ghost use Rattle.std.specs.Borrow.{sem};
 ghost use Rattle.core_step.specs.Lending.{LendsRegisters};

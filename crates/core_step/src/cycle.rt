@@ -1,3 +1,5 @@
+//! An instruction: its fetch, and what its effect asks for.
+
 ghost use Rattle.std.specs.Prelude.{◌≡◌, ◌<◌, ℕ, IfOk, if◌then◌else◌};
 ghost use Rattle.guest_regs.specs.Registers.{in_problem_state, instruction_space};
 ghost use Rattle.core_step.specs.Pages.{AreBacked};

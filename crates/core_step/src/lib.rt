@@ -1,9 +1,10 @@
 //! One instruction of a core over lent translations and real memory.
 //!
 //! It stands on `insn` and `insn_alu` for what an instruction does to the registers, on `guest_regs` for
-//! the registers, on `ground` for real memory and on `arrayvec` for the ranges that were written. Its
-//! definitions: `specs/Pages.antt` (which page covers an address), `specs/Access.antt` (the pages of an
-//! access in order, and its first fault) and `specs/Step.antt` (one instruction).
+//! the registers, on `ground` for real memory and on `arrayvec` for the ranges that were written; its tests,
+//! on `outside` for the want of memory. Its definitions: `specs/Pages.antt` (what a page is, and looking one
+//! up), `specs/Access.antt` (the pages of an access in order, and its first fault) and `specs/Step.antt` (one
+//! instruction).
 #![tactic(auto)]
 
 mod access;

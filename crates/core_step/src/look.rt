@@ -1,7 +1,9 @@
+//! The translations that a core is lent.
+
 ghost use Rattle.std.specs.Prelude.{◌≡◌};
 ghost use Rattle.core_step.specs.Pages.{Lookup};
 
-/// A page of translated storage.
+/// A page of translated storage (Power ISA 2.06, Book III-E, chapter 6).
 #[derive(Clone, Copy, Debug, PartialEq, Eq)]
 pub struct Page {
     /// The effective address of its first byte, a multiple of its size.
@@ -12,7 +14,7 @@ pub struct Page {
     pub perms: u16,
     /// Whether its bytes are little-endian.
     pub little: bool,
-    /// The extent of real memory that it lies in.
+    /// The extent of real memory that it lies in, by its number.
     pub extent: u32,
     /// The offset of its first byte there, in bytes.
     pub at: u32,

@@ -1,3 +1,5 @@
+//! Bytes from real memory and to it.
+
 ghost use Rattle.std.specs.Prelude.{◌≡◌, ◌++◌, ◌+◌, ◌≤◌, length};
 ghost use Rattle.ground.specs.Extents.{bytes_at, after_write};
 ghost use Rattle.core_step.specs.Access as spec;

@@ -1,3 +1,5 @@
+//! Small answers of the definition: permissions, faults, reservations.
+
 ghost use Rattle.std.specs.Prelude.{◌≡◌, ◌<◌};
 ghost use Rattle.guest_regs.specs.Registers.{in_problem_state};
 ghost use Rattle.core_step.specs.Access as access;
@@ -64,17 +66,17 @@ pub fn fetch_fault(pc: u32, fault: Fault) -> Hw
     }
 }
 
-pub fn first_block(places: Places) -> u64
-    ensures { result ≡ spec.first_block (access.in_order places) }
+pub fn first_granule(places: Places) -> u64
+    ensures { result ≡ spec.first_granule (access.in_order places) }
 {
     places.first.logical - places.first.logical % 64
 }
 
-pub fn holds(regs: &Regs, block: u64) -> bool
-    ensures { result ≡ spec.holds regs.now block }
+pub fn holds(regs: &Regs, granule: u64) -> bool
+    ensures { result ≡ spec.holds regs.now granule }
 {
     match regs.reserved() {
-        Some(held) => held == block,
+        Some(held) => held == granule,
         None => false,
     }
 }

@@ -1,5 +1,5 @@
 //! What no clause says: that instructions whose effect was worked out by hand do what they should, over
-//! one page of 4 KiB.
+//! one page of 16 KiB.
 
 ghost use Rattle.std.specs.Prelude.{◌≡◌, ◌∷◌, [], IfOk, length, map};
 
@@ -10,7 +10,7 @@ use outside::NoMemory;
 use std::alloc::Global;
 use std::test::Fail;
 
-// The page at 0x1000, of logical address 0x5000, with these permissions.
+// The page at 0x4000, of logical address 0x10000, with these permissions. In space 1 it is always little-endian.
 #[derive(Drop)]
 struct OnePage {
     perms: u16,
@@ -18,22 +18,22 @@ struct OnePage {
 }
 
 impl Look for OnePage {
-    ghost use Rattle.std.specs.Prelude.{not, ◌&&◌, nat_le, nat_lt, None, Some, if◌then◌else◌};
+    ghost use Rattle.std.specs.Prelude.{◌&&◌, ◌||◌, nat_le, nat_lt, None, Some, if◌then◌else◌};
 
-    ghost lookup = { λ look space pid ea. if not space && (nat_le 4096 ea && nat_lt ea 8192)
-        then Some (record { ea = 4096; tsize = 1; perms = look.perms; little = look.little; extent = 0; at = 0; logical = 20480 })
+    ghost lookup = { λ look space pid ea. if nat_le 16384 ea && nat_lt ea 32768
+        then Some (record { ea = 16384; tsize = 2; perms = look.perms; little = look.little || space; extent = 0; at = 0; logical = 65536 })
         else None };
 
     fn hit(&self, ts: bool, _pid: u16, ea: u32) -> Option<Page> {
-        if !ts && 0x1000 <= ea && ea < 0x2000 {
+        if 0x4000 <= ea && ea < 0x8000 {
             Some(Page {
-                ea: 0x1000,
-                tsize: 1,
+                ea: 0x4000,
+                tsize: 2,
                 perms: self.perms,
-                little: self.little,
+                little: self.little || ts,
                 extent: 0,
                 at: 0,
-                logical: 0x5000,
+                logical: 0x1_0000,
             })
         } else {
             None
@@ -46,19 +46,19 @@ const SYSTEM: u16 = 0x15;
 
 const USER: u16 = 0x2A;
 
-// One extent of 4 KiB whose first word is an instruction.
+// One extent of 16 KiB whose first word is an instruction.
 #[tactic(auto, using(crate::proofs::Stay::first_page, crate::proofs::Stay::same_sizes))]
 fn memory(alloc: Global, word: u32) -> Result<Ground, NoMemory>
-    ensures { IfOk result (λ memory. map length memory ≡ 4096 ∷ []) }
+    ensures { IfOk result (λ memory. map length memory ≡ 16384 ∷ []) }
 {
-    let mut ground = Ground::new(alloc, &[0x1000])?;
+    let mut ground = Ground::new(alloc, &[0x4000])?;
     ground.store32(0, 0, word);
     Ok(ground)
 }
 
 // A core at the page's first byte, with (r3) and (r4).
 fn core(msr: u32, r3: u32, r4: u32) -> Core {
-    let mut regs = boot(0x1000, 0, 0);
+    let mut regs = boot(0x4000, 0, 0);
     regs.set_msr(msr);
     regs.set_gpr(3, r3);
     regs.set_gpr(4, r4);
@@ -74,7 +74,7 @@ fn run(
     r3: u32,
     r4: u32,
 ) -> Result<(Hw, Core, Ground), NoMemory>
-    ensures { IfOk result (λ done. map length done.2 ≡ 4096 ∷ []) }
+    ensures { IfOk result (λ done. map length done.2 ≡ 16384 ∷ []) }
 {
     let mut ground = memory(alloc, word)?;
     let mut core = core(msr, r3, r4);
@@ -84,13 +84,16 @@ fn run(
 
 // One instruction over the page.
 fn step(look: &OnePage, core: &mut Core, ground: &mut Ground) -> Hw
-    requires { map length ground.old ≡ 4096 ∷ [] }
-    ensures { map length ground.new ≡ 4096 ∷ [] }
+    requires { map length ground.old ≡ 16384 ∷ [] }
+    ensures { map length ground.new ≡ 16384 ∷ [] }
 {
     core.step(look, ground)
 }
 
+// PR and DS of the MSR.
 const PROBLEM: u32 = 0x4000;
+
+const DATA_SPACE: u32 = 0x10;
 
 #[test]
 #[tactic(auto, using(crate::proofs::Stay::first_page))]
@@ -104,39 +107,47 @@ fn instructions_that_are_not_done(rt: HostRuntime) -> Result<(), Fail> {
             all,
             false,
             0,
-            0x1FFE,
-            "MissData { ea: 8192, store: true }",
+            0x7FFE,
+            "MissData { ea: 32768, store: true }",
         ),
         (
             0x8083_0000,
             all,
             false,
             0,
-            0x0FFE,
-            "MissData { ea: 4094, store: false }",
+            0x3FFE,
+            "MissData { ea: 16382, store: false }",
         ),
         (
             0x9083_0000,
             0x11,
             false,
             0,
-            0x1100,
-            "StorageData { ea: 4352, store: true, little: false }",
+            0x4100,
+            "StorageData { ea: 16640, store: true, little: false }",
         ),
         (
             0x8083_0000,
             0x14,
             false,
             0,
-            0x1100,
-            "StorageData { ea: 4352, store: false, little: false }",
+            0x4100,
+            "StorageData { ea: 16640, store: false, little: false }",
         ),
         (
             0x8083_0000,
             SYSTEM,
             false,
             PROBLEM,
-            0x1100,
+            0x4100,
+            "StorageInsn { little: false }",
+        ),
+        (
+            0x8083_0000,
+            USER,
+            false,
+            0,
+            0x4100,
             "StorageInsn { little: false }",
         ),
         (
@@ -144,7 +155,7 @@ fn instructions_that_are_not_done(rt: HostRuntime) -> Result<(), Fail> {
             all,
             true,
             0,
-            0x1100,
+            0x4100,
             "StorageInsn { little: true }",
         ),
         // UX alone, then UX and UR, and UX and UW
@@ -153,41 +164,82 @@ fn instructions_that_are_not_done(rt: HostRuntime) -> Result<(), Fail> {
             0x20,
             false,
             PROBLEM,
-            0x1100,
-            "StorageData { ea: 4352, store: false, little: false }",
+            0x4100,
+            "StorageData { ea: 16640, store: false, little: false }",
         ),
         (
             0x9083_0000,
             0x22,
             false,
             PROBLEM,
-            0x1100,
-            "StorageData { ea: 4352, store: true, little: false }",
+            0x4100,
+            "StorageData { ea: 16640, store: true, little: false }",
         ),
         (
             0x8083_0000,
             0x28,
             false,
             PROBLEM,
-            0x1100,
-            "StorageData { ea: 4352, store: false, little: false }",
+            0x4100,
+            "StorageData { ea: 16640, store: false, little: false }",
         ),
-        // lmw r30,0(r3) and lwarx
+        // a little-endian page of data; the permission comes first
+        (
+            0x8083_0000,
+            all,
+            false,
+            DATA_SPACE,
+            0x4100,
+            "StorageData { ea: 16640, store: false, little: true }",
+        ),
+        (
+            0x9083_0000,
+            all,
+            false,
+            DATA_SPACE,
+            0x4100,
+            "StorageData { ea: 16640, store: true, little: true }",
+        ),
+        (
+            0x9083_0000,
+            0x11,
+            false,
+            DATA_SPACE,
+            0x4100,
+            "StorageData { ea: 16640, store: true, little: false }",
+        ),
+        // lmw r30,0(r3), lwarx and stwcx.; and stmw r30,0(r3) where no page is
         (
             0xBBC3_0000,
             all,
             false,
             0,
-            0x1102,
-            "Align { ea: 4354, store: false }",
+            0x4102,
+            "Align { ea: 16642, store: false }",
         ),
         (
             0x7C80_1828,
             all,
             false,
             0,
-            0x1102,
-            "Align { ea: 4354, store: false }",
+            0x4102,
+            "Align { ea: 16642, store: false }",
+        ),
+        (
+            0x7C80_192D,
+            all,
+            false,
+            0,
+            0x4102,
+            "Align { ea: 16642, store: true }",
+        ),
+        (
+            0xBFC3_0000,
+            all,
+            false,
+            0,
+            0x9002,
+            "Align { ea: 36866, store: true }",
         ),
         (0x4400_0002, all, false, 0, 0, "Sc"),
         (0x4400_0022, all, false, 0, 0, "Hcall"),
@@ -200,16 +252,16 @@ fn instructions_that_are_not_done(rt: HostRuntime) -> Result<(), Fail> {
         let (hw, core, ground) = run(alloc, &look, word, msr, r3, 0x1234_5678)?;
         let text = format!(in alloc; "{hw:?}")?;
         assert_eq!(rt; text.as_str(), answer, "{word:x}");
-        assert_eq!(rt; core.regs().pc(), 0x1000, "{word:x}");
+        assert_eq!(rt; core.regs().pc(), 0x4000, "{word:x}");
         assert_eq!(rt; ground.load32(0, 0), word, "{word:x}");
-        assert_eq!(rt; ground.load32(0, 0xFFC), 0, "{word:x}");
+        assert_eq!(rt; ground.load32(0, 0x3FFC), 0, "{word:x}");
     }
     Ok(())
 }
 
 // What user programs may not do: returns, the machine state, translations, dcbi, a special register of the
 // system, and hypercalls.
-const PRIVILEGED: [u32; 17] = [
+const PRIVILEGED: [u32; 18] = [
     0x4C00_0064, // rfi
     0x4C00_0066, // rfci
     0x4C00_004C, // rfmci
@@ -226,6 +278,7 @@ const PRIVILEGED: [u32; 17] = [
     0x7C00_046C, // tlbsync
     0x7C00_1BAC, // dcbi 0,r3
     0x7C7A_02A6, // mfspr r3,SRR0
+    0x7C7A_03A6, // mtspr SRR0,r3
     0x4400_0022, // sc 1
 ];
 
@@ -237,12 +290,12 @@ fn users_are_refused_what_is_privileged(rt: HostRuntime) -> Result<(), Fail> {
         little: false,
     };
     for &word in PRIVILEGED.iter() {
-        let (hw, core, _ground) = run(alloc, &look, word, PROBLEM, 0x1100, 0)?;
+        let (hw, core, _ground) = run(alloc, &look, word, PROBLEM, 0x4100, 0)?;
         let text = format!(in alloc; "{hw:?}")?;
         assert_eq!(rt; text.as_str(), "Program(67108864)", "{word:x}");
         assert_eq!(rt;
             (core.regs().pc(), core.regs().gpr(3)),
-            (0x1000, 0x1100),
+            (0x4000, 0x4100),
             "{word:x}"
         );
     }
@@ -258,7 +311,7 @@ fn stores_and_reservations(rt: HostRuntime) -> Result<(), Fail> {
         little: false,
     };
     // stwu r4,0x7FD(r3) at no multiple of 4: one range, and the address goes to r3
-    let (hw, core, ground) = run(alloc, &look, 0x9483_07FD, 0, 0x1001, 0x1234_5678)?;
+    let (hw, core, ground) = run(alloc, &look, 0x9483_07FD, 0, 0x4001, 0x1234_5678)?;
     let Hw::Retired(ranges) = hw else {
         return Err(Fail::from("not retired"));
     };
@@ -271,15 +324,52 @@ fn stores_and_reservations(rt: HostRuntime) -> Result<(), Fail> {
         }]
         .as_slice()
     );
-    assert_eq!(rt; (core.regs().gpr(3), core.regs().pc()), (0x17FE, 0x1004));
+    assert_eq!(rt; (core.regs().gpr(3), core.regs().pc()), (0x47FE, 0x4004));
     assert_eq!(rt;
         (ground.load32(0, 0x7FE), ground.load16(0, 0x7FC)),
         (0x1234_5678, 0)
     );
+    // stw r4,0(r3) over the end of a 4 KiB page: a range for each
+    let (hw, _core, ground) = run(alloc, &look, 0x9083_0000, 0, 0x4FFE, 0x1234_5678)?;
+    let Hw::Retired(ranges) = hw else {
+        return Err(Fail::from("not retired"));
+    };
+    assert_eq!(rt;
+        ranges.as_slice(),
+        [
+            Wrote {
+                extent: 0,
+                at: 0xFFE,
+                len: 2
+            },
+            Wrote {
+                extent: 0,
+                at: 0x1000,
+                len: 2
+            }
+        ]
+        .as_slice()
+    );
+    assert_eq!(rt; ground.load32(0, 0xFFE), 0x1234_5678);
+    // dcbz 0,r3 in the block of the instruction
+    let (hw, _core, ground) = run(alloc, &look, 0x7C00_1FEC, 0, 0x403F, 0)?;
+    let Hw::Retired(ranges) = hw else {
+        return Err(Fail::from("not retired"));
+    };
+    assert_eq!(rt;
+        ranges.as_slice(),
+        [Wrote {
+            extent: 0,
+            at: 0,
+            len: 64
+        }]
+        .as_slice()
+    );
+    assert_eq!(rt; ground.load32(0, 0), 0);
     // stwcx. r4,0,r3 with its block reserved, with another, and with none
     for (reserved, cr, word) in [
-        (Some(0x5040), 0x2000_0000, 0x1234_5678),
-        (Some(0x5080), 0, 0),
+        (Some(0x1_0040), 0x2000_0000, 0x1234_5678),
+        (Some(0x1_0080), 0, 0),
         (None, 0, 0),
     ] {
         let mut ground = memory(alloc, 0x7C80_192D)?;
@@ -288,25 +378,28 @@ fn stores_and_reservations(rt: HostRuntime) -> Result<(), Fail> {
         let Hw::Retired(ranges) = hw else {
             return Err(Fail::from("not retired"));
         };
-        assert_eq!(rt; ranges.len(), if reserved == Some(0x5040) { 1 } else { 0 });
+        assert_eq!(rt;
+            ranges.len(),
+            if reserved == Some(0x1_0040) { 1 } else { 0 }
+        );
         assert_eq!(rt; (core.regs().cr(), core.regs().reserved()), (cr, None));
         assert_eq!(rt; ground.load32(0, 0x44), word);
     }
     // lwarx r4,0,r3 keeps the block of the logical address
-    let (hw, core, _ground) = run(alloc, &look, 0x7C80_1828, 0, 0x1044, 0)?;
+    let (hw, core, _ground) = run(alloc, &look, 0x7C80_1828, 0, 0x4044, 0)?;
     assert!(rt; matches!(hw, Hw::Retired(_)));
-    assert_eq!(rt; core.regs().reserved(), Some(0x5040));
+    assert_eq!(rt; core.regs().reserved(), Some(0x1_0040));
     // wait
     let (hw, core, _ground) = run(alloc, &look, 0x7C00_007C, 0, 0, 0)?;
     assert!(rt; matches!(hw, Hw::Waiting));
-    assert_eq!(rt; (core.regs().idle(), core.regs().pc()), (true, 0x1004));
+    assert_eq!(rt; (core.regs().idle(), core.regs().pc()), (true, 0x4004));
     Ok(())
 }
 
 // A core about to store under this reservation.
 fn core_with(reserved: Option<u64>) -> Core {
-    let mut regs = boot(0x1000, 0, 0);
-    regs.set_gpr(3, 0x1044);
+    let mut regs = boot(0x4000, 0, 0);
+    regs.set_gpr(3, 0x4044);
     regs.set_gpr(4, 0x1234_5678);
     regs.set_reserved(reserved);
     Core::new(regs)

@@ -1,3 +1,5 @@
+//! Loads and stores over the places of their bytes.
+
 ghost use Rattle.std.specs.Prelude.{◌≡◌, ◌<◌, ℕ, true, false, length};
 ghost use Rattle.insn_alu.specs.declared.effect.Effect.TheVariants.{Memory};
 ghost use Rattle.insn_alu.specs.Transfers.{transfer_of, transfer_effect, stored_by};
@@ -9,7 +11,7 @@ use crate::access::{Places, look_up_all};
 use crate::answer::Hw;
 use crate::look::Look;
 use crate::moving::{load_bytes, ranges, store_bytes};
-use crate::stepping::{access_permission, data_fault, first_block, holds, is_aligned};
+use crate::stepping::{access_permission, data_fault, first_granule, holds, is_aligned};
 use arrayvec::ArrayVec;
 use ground::Ground;
 use guest_regs::Regs;
@@ -29,7 +31,7 @@ fn load(insn: Insn, made: Access, places: Places, regs: &mut Regs, ground: &Grou
     let bytes = load_bytes(ground, places);
     finish_load(&insn, regs, bytes.as_slice());
     if let Form::Reserve = made.form {
-        regs.set_reserved(Some(first_block(places)));
+        regs.set_reserved(Some(first_granule(places)));
     }
     Hw::Retired(ArrayVec::new())
 }
@@ -42,6 +44,7 @@ fn bytes_to_store(insn: Insn, made: Access, regs: &Regs) -> ArrayVec<u8, 128>
     ensures bytes { result.items ≡ stored_by (transfer_of insn.op) insn.word regs.now }
     ensures whole { length result.items ≡ made.len }
 {
+    // Reading one tells that the registers are 32.
     let _last = regs.gpr(31);
     stored(&insn, regs)
 }
@@ -81,7 +84,7 @@ fn store_conditional(
         ≡ record { answer = spec.answered result; registers = regs.new; memory = ground.new } }
     ensures sizes { access.SameSizes ground.old ground.new }
 {
-    if holds(regs, first_block(places)) {
+    if holds(regs, first_granule(places)) {
         let bytes = bytes_to_store(insn, made, regs);
         store_bytes(ground, places, bytes.as_slice());
         finish_load(&insn, regs, &[1]);

@@ -1,6 +1,6 @@
 //! Writes the canonical blob of a device tree.
 //!
-//! It stands on `outside` and `dt_model`. `write` gives `canonical`, of `dt_model`'s
+//! It stands on `dt_model`, and its tests on `outside`. `write` gives `canonical`, of `dt_model`'s
 //! `specs/Canonical.antt`: version 17, no NOP, each property name once in order of first use.
 #![tactic(auto)]
 

@@ -1,6 +1,7 @@
 //! Real memory: extents of bytes, read and written in place.
 //!
-//! The layer stands on `outside` alone, whose `NoMemory` it gives. Only `Ground::new` takes memory.
+//! The layer stands on `outside`, whose `NoMemory` it gives, and on the kit's `byteorder` for numbers. Only
+//! `Ground::new` takes memory.
 //! `specs/Extents.antt` says what an extent, a range in it and a write are; no contract says more of how
 //! the bytes are kept.
 #![tactic(auto)]

@@ -25,7 +25,8 @@ impl Model for Ground {
 }
 
 impl Ground {
-    /// Extents of these sizes in bytes, all zero, together a GiB at most. Takes all the memory here.
+    /// Extents of these sizes in bytes, all zero, together a GiB at most. Takes all the memory here; fails
+    /// only where memory runs out.
     pub fn new(alloc: Global, sizes: &[u32]) -> Result<Ground, NoMemory>
         requires { AreSmall sizes.now }
         ensures { IfOk result (λ memory. memory ≡ zero_extents sizes.now) }

@@ -1,14 +1,18 @@
 -- What a search and a lookup find is one translation.
-use Rattle.std.proofs.Common.{arith, refl, ap, sym, ◌∙◌, ◌≡◌, ℕ, zero, suc, ◌+◌, ◌<◌, ◌≤◌, Bool, true, false, not, cond, ltb, List, [], ◌∷◌, length, get_or, Option, Some, None, IfSome, MatchOption, subst, ⊎_elim}
+use Rattle.std.proofs.Common.{arith, refl, ap, sym, ◌∙◌, ◌≡◌, ℕ, zero, suc, ◌+◌, ◌/◌, ◌%◌, ◌^◌, ◌<◌, ◌≤◌, Bool, true, false, not, cond, ltb, List, [], ◌∷◌, length, get_or, Option, Some, None, IfSome, MatchOption, subst, ⊎_elim}
 use Rattle.std.proofs.lemmas.Bool.{cases_lt, lt-ltb}
 use Rattle.std.proofs.lemmas.Option.{none-some}
 use Rattle.std.proofs.lemmas.List.Quantifiers.{position-Some}
 use Rattle.std.specs.List.{position_or_len, find, position}
+use Rattle.mas.specs.declared.registers.Mas.{Mas}
 use Rattle.mas.specs.declared.entry.Entry.{Entry}
+use Rattle.mas.specs.Translation.{told}
 use Rattle.guest_tlb.specs.Translation.{matches, IsMatch}
 use Rattle.guest_tlb.specs.Slots.{blank, entry_at, search_of, lookup_of}
 use Rattle.guest_tlb.specs.Kept.{AreKept}
+use Rattle.guest_tlb.specs.Laws.{FoundIsNamed}
 use Rattle.guest_tlb.proofs.Meeting.{match_is, match_parts}
+use Rattle.guest_tlb.proofs.Places.{places_name_slots}
 
 -- the element at the first place that passes
 find_at : {X : Type 0} (p : X → Bool) (xs : List X) (k : ℕ) (d : X) → k < length xs → p (get_or xs k d) ≡ true → ((j : ℕ) → j < k → p (get_or xs j d) ≡ false) → find p xs ≡ Some (get_or xs k d)
@@ -61,3 +65,16 @@ matches_by space pid ea slots (Some k) kept h =
 
 pub lookup_matches : (space : Bool) (pid ea : ℕ) (slots : List Entry) → AreKept slots → IfSome (lookup_of space pid ea slots) (IsMatch space pid ea)
 lookup_matches space pid ea slots kept = matches_by space pid ea slots (search_of space pid ea slots) kept refl
+
+-- what a search found is named by the registers that tell it
+told_set : (entry : Entry) (set : ℕ) → entry.epn % 2 ^ 12 ≡ 0 → entry.wimge < 2 ^ 5 → entry.epn / 2 ^ 12 % 128 ≡ set → (entry.epn + entry.wimge) / 2 ^ 12 % 128 ≡ set
+told_set entry set whole small h = omega (arith, whole, small, h)
+
+pub found_is_named : FoundIsNamed
+unfolding told
+found_is_named slots mas space pid ea slot kept h =
+    let at = position-Some (matches space pid ea) slots slot blank h in
+    let entry : Entry = entry_at slots slot in
+    let holds = kept.each slot in
+    let live = (match_parts space pid ea entry at.1).0 in
+    places_name_slots (told entry mas) slot (omega (arith, at.0, kept.count)) (λ low. told_set entry (slot / 4) holds.fits.epn_whole holds.fits.wimge_small (holds.tlb0_set low live))

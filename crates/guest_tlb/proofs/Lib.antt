@@ -1,5 +1,6 @@
 pub mod Sizes
 pub mod Passes
+pub mod Places
 pub mod Found
 pub mod Meeting
 pub mod Apart

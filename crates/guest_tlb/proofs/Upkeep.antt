@@ -1,5 +1,5 @@
 -- What the slots keep, after each change.
-use Rattle.std.proofs.Common.{arith, refl, ap, sym, ◌∙◌, subst, ◌≡◌, ℕ, ◌+◌, ◌-◌, ◌*◌, ◌%◌, ◌^◌, ◌<◌, ◌≤◌, Bool, true, false, cond, nat_lt, nat_le, List, [], set, replicate, length-set, ⊎_elim, Option, Some, None}
+use Rattle.std.proofs.Common.{arith, refl, ap, sym, ◌∙◌, subst, ◌≡◌, ℕ, ◌+◌, ◌-◌, ◌*◌, ◌/◌, ◌%◌, ◌^◌, ◌<◌, ◌≤◌, Bool, true, false, cond, nat_lt, nat_le, List, [], set, replicate, length-set, ⊎_elim, Option, Some, None}
 use Rattle.std.proofs.lemmas.Bool.{cases_eq, false≢true, and_parts, leb-true, ltb-false}
 use Rattle.std.proofs.lemmas.List.{get_or-set_other, length-replicate}
 use Rattle.std.proofs.Math.Nat.{mul_assoc}
@@ -14,6 +14,7 @@ use Rattle.guest_tlb.specs.Kept.{IsKept, AreKept}
 use Rattle.guest_tlb.specs.Laws.{WritesKeepAll, SweepsKeepAll, ResetIsKept}
 use Rattle.guest_tlb.proofs.Sizes.{size_of_pages, sizes_in_space, size_is_positive, aligned_whole, aligned_page, aligned_ends}
 use Rattle.guest_tlb.proofs.Passes.{length-swept}
+use Rattle.guest_tlb.proofs.Places.{named_set}
 use Rattle.guest_tlb.proofs.Apart.{sweeps_keep_apart, with_entry_apart, reset_is_apart, swept_entry, written_here, replicate_at}
 
 -- entries that are known to be others
@@ -38,6 +39,7 @@ ended_kept k entry h = record {
   fits = ended_fits entry h;
   sound = λ v. absurd (false≢true v);
   tlb0_size = λ _ v. absurd (false≢true v);
+  tlb0_set = λ _ v. absurd (false≢true v);
 }
 
 blank_kept : (k : ℕ) → IsKept k blank
@@ -54,6 +56,7 @@ blank_kept k = record {
   };
   sound = λ v. absurd (false≢true v);
   tlb0_size = λ _ v. absurd (false≢true v);
+  tlb0_set = λ _ v. absurd (false≢true v);
 }
 
 after_kept : (ends : ℕ → Entry → Bool) (k : ℕ) (entry : Entry) → IsKept k entry → IsKept k (after ends k entry)
@@ -140,18 +143,23 @@ sized_kept k entry large h = by_size (has_size entry) refl
     by_size true e =
         let range = and_parts (nat_le 1 entry.tsize) (nat_le entry.tsize 11) e in
         let sound : IsSound (placed entry) = sized_sound entry h (leb-true 1 entry.tsize range.0) (leb-true entry.tsize 11 range.1) in
-        record { fits = sound.fits; sound = λ _. sound; tlb0_size = λ l _. absurd (large l) }
+        record { fits = sound.fits; sound = λ _. sound; tlb0_size = λ l _. absurd (large l); tlb0_set = λ l _. absurd (large l) }
     by_size false e = ended_kept k entry h
 
+-- the set of a page in MAS2 is that of the translation that the registers say
+said_set : (mas : Mas) (at : ℕ) → named_slot mas ≡ Some at → at < 512 → (entry_of mas).epn / 2 ^ 12 % 128 ≡ at / 4
+unfolding entry_of
+said_set mas at h low = omega (arith, named_set mas at h low)
+
 -- what a write leaves in its slot
-pub written_kept : (at : ℕ) (mas : Mas) → IsKept at (written_entry at mas)
+pub written_kept : (at : ℕ) (mas : Mas) → named_slot mas ≡ Some at → IsKept at (written_entry at mas)
 unfolding written_entry
-written_kept at mas = by_place (nat_lt at 512) refl
+written_kept at mas h = by_place (nat_lt at 512) refl
   where
     by_place : (b : Bool) → nat_lt at 512 ≡ b → IsKept at (cond b (tlb0_form (entry_of mas)) (tlb1_form (entry_of mas)))
     by_place true e =
         let sound : IsSound (tlb0_form (entry_of mas)) = small_sound (entry_of mas) (said_fits mas) in
-        record { fits = sound.fits; sound = λ _. sound; tlb0_size = λ _ _. refl }
+        record { fits = sound.fits; sound = λ _. sound; tlb0_size = λ _ _. refl; tlb0_set = λ low _. said_set mas at h low }
     by_place false e = let large : 512 ≤ at = ltb-false at 512 e in sized_kept at (entry_of mas) (λ l. omega arith) (said_fits mas)
 
 with_entry_kept : (at k : ℕ) (new : Entry) (old : List Entry) → IsKept at new → IsKept k (entry_at old k) → IsKept k (entry_at (with_entry at new old) k)
@@ -173,13 +181,13 @@ put_keeps at new old fresh h = record {
   apart = with_entry_apart at new old h.apart;
 }
 
-written_keeps : (place : Option ℕ) (mas : Mas) (old : List Entry) → AreKept old → AreKept (written_at place mas old)
-written_keeps None mas old h = h
-written_keeps (Some at) mas old h = put_keeps at (written_entry at mas) old (written_kept at mas) h
+written_keeps : (place : Option ℕ) (mas : Mas) (old : List Entry) → named_slot mas ≡ place → AreKept old → AreKept (written_at place mas old)
+written_keeps None mas old e h = h
+written_keeps (Some at) mas old e h = put_keeps at (written_entry at mas) old (written_kept at mas e) h
 
 pub writes_keep_all : WritesKeepAll
 unfolding after_write
-writes_keep_all mas old h = written_keeps (named_slot mas) mas old h
+writes_keep_all mas old h = written_keeps (named_slot mas) mas old refl h
 
 -- the initial area
 area_sound : IsSound initial_area
@@ -205,7 +213,7 @@ area_sound = record {
 
 area_kept : IsKept first_of_tlb1 initial_area
 unfolding first_of_tlb1
-area_kept = record { fits = area_sound.fits; sound = λ _. area_sound; tlb0_size = λ l _. absurd (omega (arith, l)) }
+area_kept = record { fits = area_sound.fits; sound = λ _. area_sound; tlb0_size = λ l _. absurd (omega (arith, l)); tlb0_set = λ l _. absurd (omega (arith, l)) }
 
 pub count_is : slot_count ≡ 576
 unfolding slot_count
@@ -236,8 +244,8 @@ reset_is_kept = record {
 }
 
 -- the same of entries and lists that are known to be these
-pub written_kept_as : (at : ℕ) (mas : Mas) (entry : Entry) → entry ≡ written_entry at mas → IsKept at entry
-written_kept_as at mas entry e = kept_of at entry (written_entry at mas) e (written_kept at mas)
+pub written_kept_as : (at : ℕ) (mas : Mas) (entry : Entry) → named_slot mas ≡ Some at → entry ≡ written_entry at mas → IsKept at entry
+written_kept_as at mas entry h e = kept_of at entry (written_entry at mas) e (written_kept at mas h)
 
 pub all_kept_of : (xs ys : List Entry) → xs ≡ ys → AreKept ys → AreKept xs
 all_kept_of xs ys e h = let P : List Entry → Type 0 = AreKept in subst P (sym e) h

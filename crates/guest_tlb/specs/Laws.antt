@@ -1,10 +1,11 @@
 -- What the definitions mean over all changes.
-use Rattle.std.specs.Prelude.{◌≡◌, ◌≢◌, ◌↔◌, ℕ, ◌<◌, Bool, List, length, Option, IsTrue, IsFalse, Contains, MatchOption, None, Some}
+use Rattle.std.specs.Prelude.{◌≡◌, ◌≢◌, ◌↔◌, ℕ, ◌/◌, ◌%◌, ◌^◌, ◌<◌, Bool, List, length, Option, IsTrue, IsFalse, Contains, MatchOption, None, Some}
 use Rattle.std.specs.List.Sorted.{IsStrictlyIncreasing}
 use Rattle.mas.specs.declared.registers.Mas.{Mas}
 use Rattle.mas.specs.declared.entry.Entry.{Entry}
+use Rattle.mas.specs.Translation.{told}
 use Rattle.guest_tlb.specs.Translation.{matches, meets}
-use Rattle.guest_tlb.specs.Slots.{entry_at, named_slot, initial_slots, search_of, lookup_of}
+use Rattle.guest_tlb.specs.Slots.{entry_at, named_slot, naming, initial_slots, search_of, lookup_of}
 use Rattle.guest_tlb.specs.Sweep.{swept, ended_slots, ends_all, ends_pid, ends_address, after_write, ended_by_write}
 use Rattle.guest_tlb.specs.Kept.{AreApart, AreKept}
 
@@ -45,6 +46,17 @@ abbrev pub SearchFindsLookup : Type 0
 SearchFindsLookup =
     (slots : List Entry) (space : Bool) (pid ea : ℕ) →
     MatchOption (search_of space pid ea slots) (lookup_of space pid ea slots ≡ None) (λ slot. lookup_of space pid ea slots ≡ Some (entry_at slots slot))
+
+-- Registers that were given a slot's place name that slot; of TLB0, where the page in MAS2 is of its set.
+abbrev pub PlacesNameSlots : Type 0
+PlacesNameSlots =
+    (mas : Mas) (slot : ℕ) → slot < 576 → (slot < 512 → mas.m2 / 2 ^ 12 % 128 ≡ slot / 4) → named_slot (naming slot mas) ≡ Some slot
+
+-- What a search found is named by the registers that tell it, so that a write of them goes where it was.
+abbrev pub FoundIsNamed : Type 0
+FoundIsNamed =
+    (slots : List Entry) (mas : Mas) (space : Bool) (pid ea slot : ℕ) → AreKept slots → search_of space pid ea slots ≡ Some slot →
+    named_slot (told (entry_at slots slot) (naming slot mas)) ≡ Some slot
 
 -- Answers rise, and have exactly the slots that pass the test.
 abbrev pub AnswersRise : Type 0

@@ -3,7 +3,7 @@
 use Rattle.std.specs.Prelude.{ℕ, ◌+◌, ◌-◌, ◌*◌, ◌/◌, ◌%◌, ◌^◌, ◌==◌, Bool, false, ◌&&◌, nat_lt, nat_le, if◌then◌else◌, List, Option, Some, None, replicate, slice_index_or, slice_set, find, position}
 use Rattle.mas.specs.declared.registers.Mas.{Mas}
 use Rattle.mas.specs.declared.entry.Entry.{Entry}
-use Rattle.mas.specs.Fields.{tlbsel_field, esel_field}
+use Rattle.mas.specs.Fields.{tlbsel_field, esel_field, with_tlbsel_esel}
 use Rattle.mas.specs.Translation.{entry_of}
 use Rattle.guest_tlb.specs.Translation.{page_size, matches}
 
@@ -33,6 +33,12 @@ named_slot mas =
     if tlbsel_field mas.m0 == 0 then Some (mas.m2 / 2 ^ 12 % 128 * 4 + esel_field mas.m0 % 4)
     else if tlbsel_field mas.m0 == 1 then Some (512 + esel_field mas.m0 % 64)
     else None
+
+-- MAS0 with TLBSEL and ESEL of a slot
+abbrev pub naming : ℕ → Mas → Mas
+naming slot mas = record mas {
+  m0 = if is_in_tlb0 slot then with_tlbsel_esel 0 (slot % 4) mas.m0 else with_tlbsel_esel 1 (slot - 512) mas.m0;
+}
 
 -- TLB0 has pages of 4 KiB alone, and protects none.
 abbrev pub tlb0_form : Entry → Entry

@@ -33,19 +33,19 @@ pub enum Ending {
     },
 }
 
-fn is_of(slot: u16, tlb0: bool, tlb1: bool) -> bool
+fn is_chosen(slot: u16, tlb0: bool, tlb1: bool) -> bool
     ensures { result ≡ is_chosen tlb0 tlb1 slot }
 {
     if is_of_tlb0(slot) { tlb0 } else { tlb1 }
 }
 
-fn is_open(entry: &Entry) -> bool
+fn is_exposed(entry: &Entry) -> bool
     ensures { result ≡ is_exposed entry.now }
 {
     entry.valid && !entry.iprot
 }
 
-fn is_whose(entry: &Entry, pid: Option<u16>) -> bool
+fn has_tid(entry: &Entry, pid: Option<u16>) -> bool
     ensures { result ≡ has_tid pid entry.now }
 {
     match pid {
@@ -58,14 +58,14 @@ fn is_whose(entry: &Entry, pid: Option<u16>) -> bool
 fn ends_of_all(tlb0: bool, tlb1: bool, slot: u16, entry: &Entry) -> bool
     ensures { result ≡ ends_all tlb0 tlb1 slot entry.now }
 {
-    is_open(entry) && is_of(slot, tlb0, tlb1)
+    is_exposed(entry) && is_chosen(slot, tlb0, tlb1)
 }
 
 #[tactic(auto, unfolding(crate::specs::Sweep::ends_pid))]
 fn ends_of_pid(pid: u16, slot: u16, entry: &Entry) -> bool
     ensures { result ≡ ends_pid pid slot entry.now }
 {
-    is_open(entry) && entry.tid == pid
+    is_exposed(entry) && entry.tid == pid
 }
 
 #[tactic(auto, unfolding(crate::specs::Sweep::ends_address))]
@@ -79,7 +79,7 @@ fn ends_of_address(
 ) -> bool
     ensures { result ≡ ends_address ea pid tlb0 tlb1 slot entry.now }
 {
-    is_open(entry) && is_of(slot, tlb0, tlb1) && is_whose(entry, pid) && holds(entry, ea)
+    is_exposed(entry) && is_chosen(slot, tlb0, tlb1) && has_tid(entry, pid) && holds(entry, ea)
 }
 
 #[tactic(auto, unfolding(crate::specs::Sweep::gives_way))]

@@ -17,9 +17,9 @@ mod tlb;
 
 pub use laws::{
     answers_are_what_died, changes_keep_the_slots, changes_keep_translations_apart,
-    one_translation_matches, search_finds_the_lookup,
+    one_translation_matches, places_name_slots, search_finds_the_lookup,
 };
-pub use slot::slot_of;
+pub use slot::{WAYS, name_slot, slot_of};
 pub use sweep::Dead;
 pub use tlb::GuestTlb;
 

@@ -6,7 +6,7 @@ ghost use Rattle.guest_tlb.specs.Translation.{is_for, overlap, share_pid, matche
 use crate::page::{holds, is_below_end};
 use mas::Entry;
 
-fn serves(pid: u16, entry: &Entry) -> bool
+fn is_for(pid: u16, entry: &Entry) -> bool
     ensures { result ≡ is_for pid entry.now }
 {
     entry.tid == 0 || entry.tid == pid
@@ -17,7 +17,7 @@ fn serves(pid: u16, entry: &Entry) -> bool
 pub fn translates(entry: &Entry, ts: bool, pid: u16, ea: u32) -> bool
     ensures { result ≡ matches ts pid ea entry.now }
 {
-    entry.valid && entry.ts == ts && serves(pid, entry) && holds(entry, ea)
+    entry.valid && entry.ts == ts && is_for(pid, entry) && holds(entry, ea)
 }
 
 fn pages_overlap(a: &Entry, b: &Entry) -> bool

@@ -1,11 +1,11 @@
 //! Which slot the registers name, and what a write leaves in it.
 
-ghost use Rattle.std.specs.Prelude.{◌≡◌, ◌<◌, IfSome};
-ghost use Rattle.guest_tlb.specs.Slots.{is_in_tlb0, named_slot, tlb0_form, has_size, tlb1_form, written_entry, initial_area};
+ghost use Rattle.std.specs.Prelude.{◌≡◌, ◌<◌, Some, IfSome};
+ghost use Rattle.guest_tlb.specs.Slots.{is_in_tlb0, named_slot, naming, tlb0_form, has_size, tlb1_form, written_entry, initial_area};
 ghost use Rattle.guest_tlb.specs.Kept.{IsKept};
 
 use crate::page::size_of;
-use mas::{Entry, Mas, entry_select, from_mas, tlb_select};
+use mas::{Entry, Mas, entry_select, from_mas, tlb_select, with_place};
 
 /// The slots of both TLBs.
 pub const SLOTS: usize = 576;
@@ -13,8 +13,8 @@ pub const SLOTS: usize = 576;
 /// The sets of TLB0.
 const SETS: u32 = 128;
 
-/// The ways of each set.
-const WAYS: u16 = 4;
+/// The ways of each set of TLB0.
+pub const WAYS: u16 = 4;
 
 /// The slots of TLB1.
 const LARGE_SLOTS: u16 = 64;
@@ -70,6 +70,18 @@ pub fn slot_of(mas: &Mas) -> Option<u16>
     }
 }
 
+/// The registers with TLBSEL and ESEL of a slot. The set of a slot of TLB0 is by the page in MAS2, which stays.
+pub fn name_slot(slot: u16, mas: &Mas) -> Mas
+    requires { slot < 576 }
+    ensures { result ≡ naming slot mas.now }
+{
+    if is_of_tlb0(slot) {
+        with_place(mas, 0, slot % WAYS)
+    } else {
+        with_place(mas, 1, slot - FIRST_OF_TLB1 as u16)
+    }
+}
+
 /// A translation as TLB0 takes it.
 fn for_tlb0(entry: Entry) -> Entry
     ensures { result ≡ tlb0_form entry }
@@ -106,9 +118,10 @@ fn for_tlb1(entry: Entry) -> Entry
     }
 }
 
-/// What a write of these registers leaves in a slot.
+/// What a write of these registers leaves in the slot that they name.
 #[tactic(auto, using(crate::proofs::Upkeep::written_kept_as), unfolding(crate::specs::Slots::written_entry))]
 pub fn written(slot: u16, mas: &Mas) -> Entry
+    requires { named_slot mas.now ≡ Some slot }
     ensures entry { result ≡ written_entry slot mas.now }
     ensures kept { IsKept slot result }
 {

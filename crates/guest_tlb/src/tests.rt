@@ -127,15 +127,18 @@ fn everyones_page_meets_one_persons(rt: HostRuntime) -> Result<(), Fail> {
 
 #[test]
 fn spaces_are_apart(rt: HostRuntime) -> Result<(), Fail> {
-    let mut tlb = empty(rt.alloc())?;
-    let other = Mas {
+    let here = small(0, 0, 0x0400_0000);
+    let there = Mas {
         m1: VALID + 0x1000,
         ..small(1, 0, 0x0400_0000)
     };
-    tlb.write(&small(0, 0, 0x0400_0000));
-    answers(&rt, &tlb.write(&other), [1].as_slice());
-    assert_eq!(rt; tlb.search(false, 3, 0x0400_0000), Some(0));
-    assert_eq!(rt; tlb.search(true, 3, 0x0400_0000), Some(1));
+    for (first, second, written) in [(here, there, 1), (there, here, 0)] {
+        let mut tlb = empty(rt.alloc())?;
+        tlb.write(&first);
+        answers(&rt, &tlb.write(&second), [written].as_slice());
+        assert_eq!(rt; tlb.search(false, 3, 0x0400_0000), Some(0));
+        assert_eq!(rt; tlb.search(true, 3, 0x0400_0000), Some(1));
+    }
     Ok(())
 }
 

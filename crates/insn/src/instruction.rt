@@ -78,8 +78,8 @@ pub enum Op {
     Lmw,
     /// Store multiple word (Book I, section 3.3.5).
     Stmw,
-    /// Any floating-point load, store or operation (Book I, chapter 4). The processor has no
-    /// floating-point unit.
+    /// Any floating-point load, store or operation (Book I, chapter 4). A guest's core has no
+    /// floating point.
     FloatingPoint,
     /// Move condition register field (Book I, section 2.5).
     Mcrf,

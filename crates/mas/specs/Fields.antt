@@ -76,6 +76,6 @@ sas_bit m6 = m6 % 2 == 1
 abbrev pub with_nv : ℕ → ℕ → ℕ
 with_nv nv m0 = m0 - m0 % 2 ^ 12 + nv
 
--- MAS0 with another TLB and another entry in it, which stand beside each other. Each is as wide as its field.
+-- MAS0 with another TLB and another entry in it, which stand beside each other. Each is cut to its field.
 abbrev pub with_tlbsel_esel : ℕ → ℕ → ℕ → ℕ
 with_tlbsel_esel tlbsel esel m0 = m0 / 2 ^ 30 * 2 ^ 30 + tlbsel % 4 * 2 ^ 28 + esel % 2 ^ 12 * 2 ^ 16 + m0 % 2 ^ 16

@@ -54,7 +54,7 @@ pub fn with_next_victim(mas: &Mas, nv: u8) -> Mas
     }
 }
 
-/// The registers with another TLBSEL and another ESEL, as far as each is as wide as its field: 2 and 12 bits.
+/// The registers with another TLBSEL and another ESEL, each cut to its field: 2 and 12 bits.
 pub fn with_place(mas: &Mas, tlb: u8, entry: u16) -> Mas
     ensures { result ≡ record mas.now { m0 = with_tlbsel_esel tlb entry mas.now.m0 } }
 {

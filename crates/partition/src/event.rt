@@ -18,7 +18,6 @@ pub enum LoneStep {
 pub enum Event {
     /// The other end of the channel `handle` took so many of the bytes that the partition sent there.
     ///
-    /// No caller gives it for a handle that is no channel, or with more bytes than were outstanding: the
-    /// first would change nothing, and the second would leave none outstanding.
+    /// For a handle that is no channel nothing changes, and more bytes than were outstanding leave none.
     Room { handle: u32, count: u16 },
 }

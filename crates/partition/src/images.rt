@@ -173,8 +173,8 @@ pub const CROSS: [u32; 16] = [
     0x4800_0000, // b 3c
 ];
 
-/// Stores across two pages, of which the second is missing, may not be stored to, is without memory and is
-/// little-endian.
+/// Stores across two pages, of which the second is missing, may not be stored to, is without memory, where it may not
+/// be stored to either, and is little-endian.
 pub const CROSSING: [u32; 91] = [
     0x4800_0098, // b 98
     0x6000_0000, // nop
@@ -240,7 +240,7 @@ pub const CROSSING: [u32; 91] = [
     0x3CE0_0403, // lis r7,1027
     0x60E7_1000, // ori r7,r7,4096
     0x3D00_0002, // lis r8,2
-    0x6108_0015, // ori r8,r8,21
+    0x6108_0011, // ori r8,r8,17
     0x4BFF_FF69, // bl 6c
     0x3CE0_0404, // lis r7,1028
     0x6008_C015, // ori r8,r0,49173

@@ -14,7 +14,7 @@ use crate::call::{Call, Status};
 use crate::clock::{Clocks, begin};
 use crate::event::{Event, LoneStep};
 use crate::hypercall::{answer, call_of_token, payload_of};
-use crate::translations::Translations;
+use crate::translations::{MEMORY_SIZE, Translations};
 use core_step::{Core, Hw};
 use ground::Ground;
 use guest_regs::boot;
@@ -27,9 +27,6 @@ use trap_emulate::{
     Cause, Mmu, are_interrupts_enabled, deliver, emulate, is_decrementer_pending, may_enter,
     store_syndrome,
 };
-
-/// The bytes of the one private area, from logical address 0.
-const MEMORY_SIZE: u32 = 65_536;
 
 /// The handle of the one channel.
 const CHANNEL: u32 = 1;
@@ -75,8 +72,9 @@ impl Model for Lone {
 }
 
 impl Lone {
-    /// The machine before its first step: the image at address 0, zeros after it, and the registers of a
-    /// client program that starts at address 0.
+    /// The machine before its first step: the image at logical address 0, zeros after it, and the registers of a
+    /// client program that starts at effective address 0 (ePAPR 1.1, chapter 5). Takes all the memory here; fails only
+    /// where memory runs out.
     #[tactic(auto, unfolding(crate::specs::Machine::boot))]
     pub fn new(alloc: Global, image: &[u8]) -> Result<Lone, NoMemory>
         requires { length image.now ≤ 65536 }

@@ -8,8 +8,8 @@ use core_step::{Look, Page};
 use mas::Entry;
 use trap_emulate::Mmu;
 
-/// How many bytes the memory has, from logical address 0.
-const MEMORY_SIZE: u64 = 0x1_0000;
+/// How many bytes the built-in machine's memory has, from logical address 0.
+pub const MEMORY_SIZE: u32 = 65_536;
 
 /// The size of a block.
 const BLOCK: u32 = 4096;
@@ -48,7 +48,7 @@ fn block_in(entry: Entry, ts: bool, pid: u16, ea: u32) -> Option<Page>
 {
     let start = ea - ea % BLOCK;
     let logical = entry.rpn + u64::from(start - entry.epn);
-    if logical >= MEMORY_SIZE {
+    if logical >= u64::from(MEMORY_SIZE) {
         return None;
     }
     Some(Page {

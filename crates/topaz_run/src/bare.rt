@@ -8,10 +8,8 @@ use crate::refuse::refuse;
 use crate::run::run;
 use crate::status::{Answer, Stop};
 use outside::{FILE_LIMIT, FileFault, Files, NoMemory, read_all};
+use partition::MEMORY_SIZE;
 use std::alloc::Global;
-
-// The most bytes that the built-in machine's memory takes.
-const MEMORY_SIZE: usize = 65_536;
 
 // Reads the image of that name, and answers what its run writes.
 pub fn bare<F: Files>(alloc: Global, files: &mut F, image: &str, turns: u64) -> Result<Answer, Stop>
@@ -36,7 +34,7 @@ fn run_image(alloc: Global, name: &str, image: &[u8], turns: u64) -> Result<Answ
     ensures answer { IfOk result (λ answer. bare name.now turns image.now ≡ answered answer) }
     ensures memory { IfErr result (λ stop. stop ≡ Stop.NoMemory) }
 {
-    if image.len() > MEMORY_SIZE {
+    if image.len() > MEMORY_SIZE as usize {
         return refuse(alloc, "I4", name);
     }
     match run(alloc, image, turns) {

@@ -1,8 +1,8 @@
 //! The top call: what the words of the command line mean, from the files that they name to the bytes that
 //! are written.
 //!
-//! It stands on `outside` (files and sinks), `partition` (the machine), and `dt_read` and `dt_write`
-//! (blobs). Its contract is the main theorem: the status and the bytes written are those of `outcome`, in
+//! It stands on `outside` (files and sinks), `partition` (the machine), and `dt_model`, `dt_read` and
+//! `dt_write` (blobs). Its contract is the main theorem: the status and the bytes written are those of `outcome`, in
 //! `specs/Outcome.antt`, and each other answer has its cause.
 #![tactic(auto)]
 

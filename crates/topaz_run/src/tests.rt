@@ -180,7 +180,7 @@ const USER: [u32; 36] = [
     0x3880_0002, // li r4,2
     0x4400_0002, // sc
     0x4800_0000, // b 88
-    0x4869_0000, // b 69008c
+    0x4869_0000, // "Hi"
 ];
 
 // Lists of words that are of no form, with bars between the words.

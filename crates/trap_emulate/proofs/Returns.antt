@@ -1,6 +1,7 @@
 -- A return undoes an entry.
 use Rattle.std.proofs.Common.{◌≡◌, ℕ, ◌+◌, ◌%◌, ◌^◌, ◌∙◌, ap, arith}
 use Rattle.guest_regs.specs.Registers.{Registers, instruction_address, machine_state}
+use Rattle.mas.specs.Translation.{missed}
 use Rattle.trap_emulate.specs.declared.cause.Cause.TheVariants.{MachineCheck, StorageData, StorageInsn, External, Align, Program, NoFloat, Syscall, Decrementer, MissData, MissInsn}
 use Rattle.trap_emulate.specs.Entry.{delivered, interrupted, checked}
 use Rattle.trap_emulate.specs.Tlb.{missing, with_mas}
@@ -21,7 +22,7 @@ after_call : (p : ℕ) → p % 4 ≡ 0 → instruction_address ((p + 4) % 2 ^ 32
 after_call p h = omega (arith, h)
 
 pub returns_go_back : ReturnsGoBack
-unfolding delivered interrupted checked missing with_mas state_after returned
+unfolding delivered interrupted checked missing missed with_mas state_after returned
 returns_go_back MachineCheck word nv r h k = same_place r (instruction_address r.pc) r.pc (here r.pc h) k
 returns_go_back (StorageData address syndrome) word nv r h k = same_place r (instruction_address r.pc) r.pc (here r.pc h) k
 returns_go_back (StorageInsn syndrome) word nv r h k = same_place r (instruction_address r.pc) r.pc (here r.pc h) k

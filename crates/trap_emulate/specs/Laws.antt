@@ -62,7 +62,6 @@ apart_from_interrupts registers = record registers {
   mas1 = 0;
   mas2 = 0;
   mas3 = 0;
-  mas4 = 0;
   mas6 = 0;
   mas7 = 0;
 }

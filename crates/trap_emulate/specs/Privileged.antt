@@ -36,7 +36,7 @@ state_after op.Tlbsync word registers = advanced registers
 state_after op.Dcbi word registers = advanced registers
 state_after _ word registers = registers
 
--- Every privileged instruction. What another one does isn't said here.
+-- Every privileged instruction. Every other one leaves all as it is.
 unfoldable pub emulated : Op → ℕ → Registers → List Entry → ℕ → Emulated
 emulated op.Tlbwe word registers slots nv = tlb_write registers slots nv
 emulated op.Tlbre word registers slots nv = kept slots nv (tlb_read registers slots nv)

@@ -4,9 +4,9 @@ use Rattle.insn.specs.Fields.{ra_field, rb_field, invalidate_kind}
 use Rattle.guest_regs.specs.Registers.{Registers, gpr_of, advanced}
 use Rattle.mas.specs.declared.registers.Mas.{Mas}
 use Rattle.mas.specs.declared.entry.Entry.{Entry}
-use Rattle.mas.specs.Fields.{tlbsel_field, nv_field, spid_field, sas_bit, with_nv, with_tlbsel_esel}
+use Rattle.mas.specs.Fields.{tlbsel_field, nv_field, spid_field, sas_bit, with_nv}
 use Rattle.mas.specs.Translation.{told, missed}
-use Rattle.guest_tlb.specs.Slots.{is_in_tlb0, entry_at, named_slot, search_of}
+use Rattle.guest_tlb.specs.Slots.{entry_at, named_slot, naming, search_of}
 use Rattle.guest_tlb.specs.Sweep.{swept, ended_slots, ends_all, ends_pid, ends_address, after_write, ended_by_write}
 
 -- the MAS registers of a core
@@ -81,12 +81,6 @@ tlb_read registers slots nv =
 
 -- ---- tlbsx
 
--- TLBSEL and ESEL of a slot
-abbrev pub naming : ℕ → Mas → Mas
-naming slot mas = record mas {
-  m0 = if is_in_tlb0 slot then with_tlbsel_esel 0 (slot % 4) mas.m0 else with_tlbsel_esel 1 (slot - 512) mas.m0;
-}
-
 -- A search that finds nothing tells what a TLB error there would, but as a dead translation, and what it was for stays.
 abbrev pub not_found : ℕ → ℕ → Mas → Mas
 not_found ea nv mas =
@@ -125,9 +119,9 @@ tlb_invalidate_local word registers slots nv =
 -- Bits of the address say which TLB, and whether all of it is meant.
 unfoldable pub tlb_invalidate : ℕ → Registers → List Entry → ℕ → Emulated
 tlb_invalidate ea registers slots nv =
-    let second = ea / 2 ^ 3 % 2 == 1 in
-    if ea / 2 ^ 2 % 2 == 1 then invalidated (ends_all (not second) second) registers slots nv
-    else invalidated (ends_address ea None (not second) second) registers slots nv
+    let tlb1 = ea / 2 ^ 3 % 2 == 1 in
+    if ea / 2 ^ 2 % 2 == 1 then invalidated (ends_all (not tlb1) tlb1) registers slots nv
+    else invalidated (ends_address ea None (not tlb1) tlb1) registers slots nv
 
 -- ---- TLB errors
 

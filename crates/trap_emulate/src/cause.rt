@@ -1,7 +1,8 @@
 /// Why a core enters an interrupt (Power ISA 2.06, Book III-E, chapter 7).
 ///
-/// `ea` is the effective address of the access, which DEAR takes, and `esr` what the exception syndrome register
-/// takes. `store` is whether the access was a store.
+/// `ea` is an effective address: of the first byte that a load or store has in the page, or with `Align` at all, which DEAR
+/// takes, and with `MissInsn` of the instruction. `esr` is what the exception syndrome register takes, and `store` whether
+/// the access was a store.
 #[derive(Clone, Copy, Debug, PartialEq, Eq)]
 pub enum Cause {
     /// An access to storage that isn't there.

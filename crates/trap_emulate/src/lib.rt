@@ -1,7 +1,7 @@
 //! What the system of a guest can do to its core: its timers, its interrupts and its privileged instructions.
 //!
 //! It stands on `insn` for the instructions and their fields, on `guest_regs` for the registers, on `mas` and
-//! `guest_tlb` for translations, on `outside` for the want of memory, and on the kit's `arrayvec`. `tick` meets
+//! `guest_tlb` for translations, and on the kit's `arrayvec`; its tests, on `outside` for the want of memory. `tick` meets
 //! `specs/Clock.antt`, the time base and the decrementer of one step; `deliver` meets `specs/Entry.antt`, the entry
 //! of each interrupt; `emulate` meets `specs/Privileged.antt`, the privileged instructions, of which
 //! `specs/Tlb.antt` has those on translations. `specs/State.antt` names the bits of the machine state, and `specs/Laws.antt`

@@ -4,6 +4,7 @@ use guest_tlb::GuestTlb;
 /// (Power ISA 2.06, Book III-E, chapter 6). The MAS registers stand among its registers.
 #[derive(Drop)]
 pub struct Mmu {
+    /// The slots of both TLBs.
     pub tlb: GuestTlb,
     /// The next-victim counter, 0 to 3.
     pub nv: u8,

@@ -13,7 +13,7 @@ use guest_regs::Regs;
 use guest_tlb::Dead;
 use insn::{Insn, Op};
 
-/// Does a privileged instruction for the system, which `Regs::is_user` keeps from user programs: the returns from
+/// Does a privileged instruction for the system, for which MSR[PR] is clear: the returns from
 /// interrupts, `mfmsr`, `mtmsr`, `wrtee` and `wrteei` (Power ISA 2.06, Book III-E, chapters 4 and 5), `tlbwe`, `tlbre`,
 /// `tlbsx`, `tlbilx` and `tlbivax` (chapter 6), and `tlbsync` and `dcbi`, which have no effect here but to go on.
 /// Answers the slots whose translations it wrote or ended, in rising order.

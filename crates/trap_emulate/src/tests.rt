@@ -504,10 +504,13 @@ fn reads_and_searches_tell_in_the_registers(rt: HostRuntime) -> Result<(), Fail>
 }
 
 /// Invalidations of that page with (r3) and MAS6, and whether they end it: tlbilx with T of 0, 1 and 3, and tlbivax.
-const ENDINGS: [(u32, u32, u32, bool); 11] = [
+const ENDINGS: [(u32, u32, u32, bool); 14] = [
     (0x7C00_1824, 0, 0, true),
     (0x7C20_1824, 0, 0x0007_0000, true),
     (0x7C20_1824, 0, 0x0008_0001, false),
+    (0x7C20_1824, 0, 0, false), // the initial area's TID, and then its addresses
+    (0x7C60_1824, 0x1000, 0, false),
+    (0x7C00_1E24, 0x1008, 0, false),
     (0x7C60_1824, 0x4001_8000, 0x0007_0000, true),
     (0x7C60_1824, 0x4002_0000, 0x0007_0000, false),
     (0x7C60_1824, 0x4001_8000, 0x0000_0000, false),
@@ -537,15 +540,28 @@ fn invalidations_end_what_they_name(rt: HostRuntime) -> Result<(), Fail> {
         assert!(rt; mmu.tlb.read(512).valid);
         assert_eq!(rt; regs.pc(), 0x2008);
     }
-    // a write of TLB0 takes the way of ESEL and the counter from NV
-    let mut mmu = mmu_with(rt.alloc(), 2)?;
-    let mut regs = core_at(0x2000, 0);
-    set_all(
-        &mut regs,
-        [0x0006_0FFD, 0x8000_0000, 0x0408_5000, 0x15, 0, 0, 0],
-    );
-    let dead = emulate(&decode(TLBWE), &mut regs, &mut mmu);
-    assert_eq!(rt; (dead.as_slice(), mmu.nv), ([22].as_slice(), 1));
+    Ok(())
+}
+
+/// Writes of the page 0x04085000 with MAS0 and MAS1, the slots that they answer, and the next victim, which was 2.
+const WRITES: [(u32, u32, &[u16], u8); 5] = [
+    (0x0006_0FFD, 0x8000_0000, &[22], 1), // the way of ESEL, and the next victim of NV
+    (0x0006_0FFF, 0, &[22], 3), // a dead one
+    (0x1006_0FFD, 0x8000_0000, &[518], 2), // of TLB1, and of no size
+    (0x2006_0FFD, 0x8000_0000, &[], 2), // of no TLB
+    (0x3006_0FFD, 0x8000_0000, &[], 2),
+];
+
+#[test]
+fn writes_answer_their_slots(rt: HostRuntime) -> Result<(), Fail> {
+    for &(m0, m1, slots, nv) in WRITES.iter() {
+        let mut mmu = mmu_with(rt.alloc(), 2)?;
+        let mut regs = core_at(0x2000, 0);
+        set_all(&mut regs, [m0, m1, 0x0408_5000, 0x15, 0, 0, 0]);
+        let dead = emulate(&decode(TLBWE), &mut regs, &mut mmu);
+        assert_eq!(rt; (dead.as_slice(), mmu.nv), (slots, nv), "{m0:x}");
+        assert_eq!(rt; regs.pc(), 0x2004);
+    }
     Ok(())
 }
 

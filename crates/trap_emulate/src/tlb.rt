@@ -3,30 +3,23 @@
 ghost use Rattle.std.specs.Prelude.{◌≡◌, ℕ, ◌<◌};
 ghost use Rattle.mas.specs.Fields.{sas_bit, spid_field};
 ghost use Rattle.mas.specs.Translation.{told, missed};
-ghost use Rattle.guest_tlb.specs.Slots.{entry_at, named_slot, search_of};
-ghost use Rattle.trap_emulate.specs.Tlb.{mas_of, with_mas, operand_address, next_victim, told_of, telling_next, naming, not_found, found_by, missing, tlb_write, tlb_read, tlb_search, tlb_invalidate_local, tlb_invalidate};
+ghost use Rattle.guest_tlb.specs.Slots.{entry_at, named_slot, naming, search_of};
+ghost use Rattle.trap_emulate.specs.Tlb.{mas_of, with_mas, operand_address, next_victim, told_of, telling_next, not_found, found_by, missing, tlb_write, tlb_read, tlb_search, tlb_invalidate_local, tlb_invalidate};
 
 use crate::mmu::Mmu;
 use arrayvec::ArrayVec;
 use guest_regs::Regs;
-use guest_tlb::{Dead, slot_of};
+use guest_tlb::{Dead, WAYS, name_slot, slot_of};
 use insn::Insn;
 use mas::{
     Mas, miss_mas, next_victim, search_pid, search_space, tlb_select, to_mas, with_next_victim,
-    with_place,
 };
-
-/// The first slot of TLB1.
-const FIRST_OF_TLB1: u16 = 512;
-
-/// The ways of a set of TLB0.
-const WAYS: u16 = 4;
 
 /// V of MAS1.
 const VALID: u32 = 0x8000_0000;
 
 /// The bit of an invalidation's address that chooses TLB1.
-const SECOND_TLB: u32 = 8;
+const IN_TLB1: u32 = 8;
 
 /// The bit of an invalidation's address that asks for all of a TLB.
 const WHOLE_TLB: u32 = 4;
@@ -134,25 +127,13 @@ pub fn read_tlb(regs: &mut Regs, mmu: &Mmu)
     regs.advance();
 }
 
-/// The registers with the place of a slot.
-fn name_slot(mas: &Mas, slot: u16) -> Mas
-    requires { slot < 576 }
-    ensures { result ≡ naming slot mas.now }
-{
-    if slot < FIRST_OF_TLB1 {
-        with_place(mas, 0, slot % WAYS)
-    } else {
-        with_place(mas, 1, slot - FIRST_OF_TLB1)
-    }
-}
-
 /// What the registers tell of a slot that a search found.
 fn tell_found(mas: &Mas, mmu: &Mmu, slot: u16) -> Mas
     requires { slot < 576 }
     ensures told { result ≡ telling_next mmu.now.nv (told (entry_at mmu.now.tlb slot) (naming slot mas.now)) }
     ensures upper { result.m7 < 16 }
 {
-    let told = tell_slot(&name_slot(mas, slot), mmu, slot);
+    let told = tell_slot(&name_slot(slot, mas), mmu, slot);
     with_next_victim(&told, mmu.nv)
 }
 
@@ -217,11 +198,11 @@ pub fn invalidate(ea: u32, regs: &mut Regs, mmu: &mut Mmu) -> Dead
     ensures { tlb_invalidate ea regs.old mmu.old.tlb mmu.old.nv
         ≡ record { registers = regs.new; slots = mmu.new.tlb; nv = mmu.new.nv; ended = result.items } }
 {
-    let second = ea / SECOND_TLB % 2 == 1;
+    let tlb1 = ea / IN_TLB1 % 2 == 1;
     let dead = if ea / WHOLE_TLB % 2 == 1 {
-        mmu.tlb.inval_all(!second, second)
+        mmu.tlb.inval_all(!tlb1, tlb1)
     } else {
-        mmu.tlb.inval_ea(ea, None, !second, second)
+        mmu.tlb.inval_ea(ea, None, !tlb1, tlb1)
     };
     regs.advance();
     dead

@@ -6,4 +6,4 @@ use Rattle.guest_tlb.proofs.slot.written.Goals as goal
 
 pub returns-else-is_of_tlb0-clause-kept : goal.returns-else-is_of_tlb0-clause-kept
 unfolding written_entry
-returns-else-is_of_tlb0-clause-kept c = written_kept_as c.args.slot c.args.mas.now _ (grind (arith, common_steps))
+returns-else-is_of_tlb0-clause-kept c = written_kept_as c.args.slot c.args.mas.now _ c.requires (grind (arith, common_steps))

@@ -8,9 +8,9 @@ use Rattle.topaz_run.proofs.LongFiles.{same_answer}
 use Rattle.topaz_run.proofs.bare.run_image.Goals as goal
 use Rattle.topaz_run.proofs.bare.run_image.Goals.{then-report, else-report}
 
-pub returns-then-image-gt-MEMORY_SIZE-clause-answer :
-    goal.returns-then-image-gt-MEMORY_SIZE-clause-answer
-returns-then-image-gt-MEMORY_SIZE-clause-answer c =
+pub returns-then-image-clause-answer :
+    goal.returns-then-image-clause-answer
+returns-then-image-clause-answer c =
     let large : memory_size < length c.args.image.now = omega arith in
     same_answer _ _ c.refuse.result (too_large c.args.name.now c.args.turns c.args.image.now c.requires.short large) c.refuse.ensures.answer
 
