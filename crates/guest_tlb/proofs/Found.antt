@@ -8,7 +8,7 @@ use Rattle.mas.specs.declared.registers.Mas.{Mas}
 use Rattle.mas.specs.declared.entry.Entry.{Entry}
 use Rattle.mas.specs.Translation.{told}
 use Rattle.guest_tlb.specs.Translation.{matches, IsMatch}
-use Rattle.guest_tlb.specs.Slots.{blank, entry_at, search_of, lookup_of}
+use Rattle.guest_tlb.specs.Slots.{blank, entry_at, named_slot, naming, search_of, lookup_of}
 use Rattle.guest_tlb.specs.Kept.{AreKept}
 use Rattle.guest_tlb.specs.Laws.{FoundIsNamed}
 use Rattle.guest_tlb.proofs.Meeting.{match_is, match_parts}
@@ -70,11 +70,14 @@ lookup_matches space pid ea slots kept = matches_by space pid ea slots (search_o
 told_set : (entry : Entry) (set : ℕ) → entry.epn % 2 ^ 12 ≡ 0 → entry.wimge < 2 ^ 5 → entry.epn / 2 ^ 12 % 128 ≡ set → (entry.epn + entry.wimge) / 2 ^ 12 % 128 ≡ set
 told_set entry set whole small h = omega (arith, whole, small, h)
 
-pub found_is_named : FoundIsNamed
+pub told_is_named : (slots : List Entry) (mas : Mas) (slot : ℕ) → AreKept slots → slot < 576 → (entry_at slots slot).valid ≡ true → named_slot (told (entry_at slots slot) (naming slot mas)) ≡ Some slot
 unfolding told
-found_is_named slots mas space pid ea slot kept h =
-    let at = position-Some (matches space pid ea) slots slot blank h in
+told_is_named slots mas slot kept small live =
     let entry : Entry = entry_at slots slot in
     let holds = kept.each slot in
-    let live = (match_parts space pid ea entry at.1).0 in
-    places_name_slots (told entry mas) slot (omega (arith, at.0, kept.count)) (λ low. told_set entry (slot / 4) holds.fits.epn_whole holds.fits.wimge_small (holds.tlb0_set low live))
+    places_name_slots (told entry mas) slot small (λ low. told_set entry (slot / 4) holds.fits.epn_whole holds.fits.wimge_small (holds.tlb0_set low live))
+
+pub found_is_named : FoundIsNamed
+found_is_named slots mas space pid ea slot kept h =
+    let at = position-Some (matches space pid ea) slots slot blank h in
+    told_is_named slots mas slot kept (omega (arith, at.0, kept.count)) (match_parts space pid ea (entry_at slots slot) at.1).0

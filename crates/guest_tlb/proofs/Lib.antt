@@ -6,3 +6,4 @@ pub mod Meeting
 pub mod Apart
 pub mod Upkeep
 pub mod Answered
+pub mod Back

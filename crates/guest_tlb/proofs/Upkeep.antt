@@ -39,6 +39,7 @@ ended_kept k entry h = record {
   fits = ended_fits entry h;
   sound = λ v. absurd (false≢true v);
   tlb0_size = λ _ v. absurd (false≢true v);
+  tlb0_open = λ _ v. absurd (false≢true v);
   tlb0_set = λ _ v. absurd (false≢true v);
 }
 
@@ -56,6 +57,7 @@ blank_kept k = record {
   };
   sound = λ v. absurd (false≢true v);
   tlb0_size = λ _ v. absurd (false≢true v);
+  tlb0_open = λ _ v. absurd (false≢true v);
   tlb0_set = λ _ v. absurd (false≢true v);
 }
 
@@ -143,7 +145,7 @@ sized_kept k entry large h = by_size (has_size entry) refl
     by_size true e =
         let range = and_parts (nat_le 1 entry.tsize) (nat_le entry.tsize 11) e in
         let sound : IsSound (placed entry) = sized_sound entry h (leb-true 1 entry.tsize range.0) (leb-true entry.tsize 11 range.1) in
-        record { fits = sound.fits; sound = λ _. sound; tlb0_size = λ l _. absurd (large l); tlb0_set = λ l _. absurd (large l) }
+        record { fits = sound.fits; sound = λ _. sound; tlb0_size = λ l _. absurd (large l); tlb0_open = λ l _. absurd (large l); tlb0_set = λ l _. absurd (large l) }
     by_size false e = ended_kept k entry h
 
 -- the set of a page in MAS2 is that of the translation that the registers say
@@ -159,7 +161,7 @@ written_kept at mas h = by_place (nat_lt at 512) refl
     by_place : (b : Bool) → nat_lt at 512 ≡ b → IsKept at (cond b (tlb0_form (entry_of mas)) (tlb1_form (entry_of mas)))
     by_place true e =
         let sound : IsSound (tlb0_form (entry_of mas)) = small_sound (entry_of mas) (said_fits mas) in
-        record { fits = sound.fits; sound = λ _. sound; tlb0_size = λ _ _. refl; tlb0_set = λ low _. said_set mas at h low }
+        record { fits = sound.fits; sound = λ _. sound; tlb0_size = λ _ _. refl; tlb0_open = λ _ _. refl; tlb0_set = λ low _. said_set mas at h low }
     by_place false e = let large : 512 ≤ at = ltb-false at 512 e in sized_kept at (entry_of mas) (λ l. omega arith) (said_fits mas)
 
 with_entry_kept : (at k : ℕ) (new : Entry) (old : List Entry) → IsKept at new → IsKept k (entry_at old k) → IsKept k (entry_at (with_entry at new old) k)
@@ -213,7 +215,7 @@ area_sound = record {
 
 area_kept : IsKept first_of_tlb1 initial_area
 unfolding first_of_tlb1
-area_kept = record { fits = area_sound.fits; sound = λ _. area_sound; tlb0_size = λ l _. absurd (omega (arith, l)); tlb0_set = λ l _. absurd (omega (arith, l)) }
+area_kept = record { fits = area_sound.fits; sound = λ _. area_sound; tlb0_size = λ l _. absurd (omega (arith, l)); tlb0_open = λ l _. absurd (omega (arith, l)); tlb0_set = λ l _. absurd (omega (arith, l)) }
 
 pub count_is : slot_count ≡ 576
 unfolding slot_count

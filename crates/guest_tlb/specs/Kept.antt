@@ -9,11 +9,12 @@ use Rattle.guest_tlb.specs.Slots.{entry_at}
 pub record AreApart (slots : List Entry) : Type 0 where
   pub none_meet : (i j : ℕ) → i ≢ j → IsTrue (entry_at slots i).valid → IsTrue (entry_at slots j).valid → meets (entry_at slots i) (entry_at slots j) ≡ false
 
--- what each slot keeps: its fields fit, a live one is sound, and one of TLB0 is of 4 KiB and in the set of its page
+-- what each slot keeps: its fields fit, a live one is sound, and one of TLB0 is of 4 KiB, unprotected, and in the set of its page
 pub record IsKept (slot : ℕ) (entry : Entry) : Type 0 where
   pub fits : Fits entry
   pub sound : IsTrue entry.valid → IsSound entry
   pub tlb0_size : slot < 512 → IsTrue entry.valid → entry.tsize ≡ 1
+  pub tlb0_open : slot < 512 → IsTrue entry.valid → entry.iprot ≡ false
   pub tlb0_set : slot < 512 → IsTrue entry.valid → entry.epn / 2 ^ 12 % 128 ≡ slot / 4
 
 -- so many slots, each of which keeps that, and no two of which meet

@@ -58,6 +58,12 @@ FoundIsNamed =
     (slots : List Entry) (mas : Mas) (space : Bool) (pid ea slot : ℕ) → AreKept slots → search_of space pid ea slots ≡ Some slot →
     named_slot (told (entry_at slots slot) (naming slot mas)) ≡ Some slot
 
+-- A live translation that is written back by the registers that tell it leaves all slots as they are.
+abbrev pub WritesBackKeep : Type 0
+WritesBackKeep =
+    (slots : List Entry) (mas : Mas) (slot : ℕ) → AreKept slots → slot < 576 → IsTrue (entry_at slots slot).valid →
+    after_write (told (entry_at slots slot) (naming slot mas)) slots ≡ slots
+
 -- Answers rise, and have exactly the slots that pass the test.
 abbrev pub AnswersRise : Type 0
 AnswersRise = (ends : ℕ → Entry → Bool) (slots : List Entry) → IsStrictlyIncreasing (ended_slots ends slots)

@@ -1,6 +1,6 @@
 //! Laws of the definitions. Each is a function with nothing to do, whose contract is the law.
 
-ghost use Rattle.guest_tlb.specs.Laws.{WritesKeepApart, SweepsKeepApart, ResetIsApart, WritesKeepAll, SweepsKeepAll, ResetIsKept, MeetingSharesAnAccess, OneMatches, SearchFindsLookup, PlacesNameSlots, FoundIsNamed, AnswersRise, AnswersAreTaken, InvalidationsAnswerDeaths, WritesAnswerDeaths};
+ghost use Rattle.guest_tlb.specs.Laws.{WritesKeepApart, SweepsKeepApart, ResetIsApart, WritesKeepAll, SweepsKeepAll, ResetIsKept, MeetingSharesAnAccess, OneMatches, SearchFindsLookup, PlacesNameSlots, FoundIsNamed, WritesBackKeep, AnswersRise, AnswersAreTaken, InvalidationsAnswerDeaths, WritesAnswerDeaths};
 
 /// No two live translations meet after a reset, and none do after a change where none did before.
 pub fn changes_keep_translations_apart()
@@ -28,10 +28,12 @@ pub fn search_finds_the_lookup()
     ensures { SearchFindsLookup }
 {}
 
-/// A slot's place names the slot, and so do the registers that tell what a search found.
+/// A slot's place names the slot, and so do the registers that tell what a search found: a write of them changes
+/// nothing.
 pub fn places_name_slots()
     ensures places { PlacesNameSlots }
     ensures found { FoundIsNamed }
+    ensures back { WritesBackKeep }
 {}
 
 /// What a change answers rises, and is exactly what it took or what died.
