@@ -33,7 +33,7 @@ find_none p (x ∷ xs) h = no_more (p x) x (find p xs) (position_or_len p xs) (l
 pub find_is_found : {X : Type 0} (p : X → Bool) (xs : List X) (k : ℕ) (d : X) → position p xs ≡ Some k → find p xs ≡ Some (get_or xs k d)
 find_is_found p xs k d h = let at = position-Some p xs k d h in find_at p xs k d at.0 at.1 at.2
 
-some_below : (n len : ℕ) → cond (ltb n len) (Some n) None ≡ None → len ≤ n
+pub some_below : (n len : ℕ) → cond (ltb n len) (Some n) None ≡ None → len ≤ n
 some_below n len h =
     ⊎_elim (λ (l : n < len). absurd (none-some n (sym h ∙ ap (λ b. cond b (Some n) None) (lt-ltb n len l)))) (λ (l : len ≤ n). l) (cases_lt n len)
 

@@ -7,3 +7,4 @@ pub mod Apart
 pub mod Upkeep
 pub mod Answered
 pub mod Back
+pub mod Windows

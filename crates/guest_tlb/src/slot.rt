@@ -1,6 +1,6 @@
 //! Which slot the registers name, and what a write leaves in it.
 
-ghost use Rattle.std.specs.Prelude.{◌≡◌, ◌<◌, Some, IfSome};
+ghost use Rattle.std.specs.Prelude.{◌≡◌, ◌*◌, ◌/◌, ◌%◌, ◌^◌, ◌<◌, ◌≤◌, Some, IfSome};
 ghost use Rattle.guest_tlb.specs.Slots.{is_in_tlb0, named_slot, naming, tlb0_form, has_size, tlb1_form, written_entry, initial_area};
 ghost use Rattle.guest_tlb.specs.Kept.{IsKept};
 
@@ -56,6 +56,14 @@ pub fn is_of_tlb0(slot: u16) -> bool
     (slot as usize) < FIRST_OF_TLB1
 }
 
+/// The first slot of the set of TLB0 that takes the page of an effective address.
+pub fn set_of(ea: u32) -> usize
+    ensures set { result ≡ ea / 2 ^ 12 % 128 * 4 }
+    ensures bound { result ≤ 508 }
+{
+    ((ea >> 12) % SETS) as usize * WAYS as usize
+}
+
 /// The slot that TLBSEL, ESEL and EPN name, below 576: slots 0 to 511 are TLB0, its set times 4 plus its way, and 512
 /// to 575 are TLB1. None exactly where TLBSEL is above 1 (Power ISA 2.06, Book III-E, chapter 6, TLB management).
 #[tactic(auto, unfolding(crate::specs::Slots::named_slot))]
@@ -64,7 +72,7 @@ pub fn slot_of(mas: &Mas) -> Option<u16>
     ensures bound { IfSome result (λ slot. slot < 576) }
 {
     match tlb_select(mas) {
-        0 => Some(((mas.m2 >> 12) % SETS) as u16 * WAYS + entry_select(mas) % WAYS),
+        0 => Some(set_of(mas.m2) as u16 + entry_select(mas) % WAYS),
         1 => Some(FIRST_OF_TLB1 as u16 + entry_select(mas) % LARGE_SLOTS),
         _ => None,
     }

@@ -10,7 +10,7 @@ ghost use Rattle.guest_tlb.specs.Kept.{IsKept, AreKept};
 
 use crate::ending::Ending;
 use crate::matching::translates;
-use crate::slot::{BLANK, FIRST_OF_TLB1, SLOTS, initial, slot_of, written};
+use crate::slot::{BLANK, FIRST_OF_TLB1, SLOTS, WAYS, initial, set_of, slot_of, written};
 use crate::sweep::{Dead, sweep};
 use arrayvec::ArrayVec;
 use mas::{Entry, Mas};
@@ -40,7 +40,7 @@ impl Model for GuestTlb {
     ghost invariant = { λ tlb. AreKept tlb.slots.items };
 }
 
-/// The place of the first translation that translates an access.
+/// The place of the first of some translations that translates an access.
 fn first_match(slots: &[Entry], ts: bool, pid: u16, ea: u32) -> Option<usize>
     ensures slot { result ≡ search_of ts pid ea slots.now }
     ensures bound { IfSome result (λ slot. slot < length slots.now) }
@@ -48,6 +48,21 @@ fn first_match(slots: &[Entry], ts: bool, pid: u16, ea: u32) -> Option<usize>
     slots
         .iter()
         .position(|entry| translates(entry, ts, pid, ea))
+}
+
+/// The slot whose translation translates an access. Of TLB0 it is in the set of the page, so that the other sets aren't
+/// looked at.
+fn slot_for(slots: &[Entry], ts: bool, pid: u16, ea: u32) -> Option<usize>
+    requires { AreKept slots.now }
+    ensures slot { result ≡ search_of ts pid ea slots.now }
+    ensures bound { IfSome result (λ slot. slot < 576) }
+{
+    let set = set_of(ea);
+    if let Some(way) = first_match(&slots[set..set + WAYS as usize], ts, pid, ea) {
+        return Some(set + way);
+    }
+    let large = first_match(&slots[FIRST_OF_TLB1..], ts, pid, ea)?;
+    Some(FIRST_OF_TLB1 + large)
 }
 
 /// Leaves the initial area alone.
@@ -128,7 +143,7 @@ impl GuestTlb {
         ensures found { IfSome result (λ slot. IsMatch ts pid ea (entry_at self.now slot)) }
         ensures kept { AreKept self.now }
     {
-        let slot = first_match(&self.slots, ts, pid, ea)?;
+        let slot = slot_for(&self.slots, ts, pid, ea)?;
         Some(slot as u16)
     }
 
