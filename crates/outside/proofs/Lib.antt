@@ -1,3 +1,4 @@
 pub mod Places
 pub mod ReadSoFar
 pub mod WrittenSoFar
+pub mod PiecesSoFar

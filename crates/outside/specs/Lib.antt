@@ -1,6 +1,8 @@
 pub mod Fault
+pub mod Limit
 pub mod Content
 pub mod Taken
+pub mod Pieces
 pub mod Shelf
 pub mod MemFiles
 pub mod MemSink

@@ -1,5 +1,5 @@
 -- Files in memory: which calls fail, and what each call leaves.
-use Rattle.std.specs.Prelude.{ℕ, ◌==◌, Bool, false, ◌||◌, not, List, [], is_some, unwrap_or, drop, if◌then◌else◌}
+use Rattle.std.specs.Prelude.{ℕ, ◌==◌, Bool, true, false, ◌||◌, not, List, [], is_some, unwrap_or, drop, if◌then◌else◌}
 use Rattle.std.specs.List.{list_any}
 use Rattle.outside.specs.declared.named_file.NamedFile.{NamedFile}
 use Rattle.outside.specs.Fault.{raised}
@@ -13,6 +13,7 @@ pub record FilesInMemory : Type 0 where
   pub faults : ℕ
   pub asked : List ℕ
   pub blamed : List ℕ
+  pub is_open : Bool
   pub left : List ℕ
 
 -- a name that the list lacks is no file
@@ -32,8 +33,8 @@ fails_to_read s = is_listed s.fail s.calls
 abbrev pub after_open : FilesInMemory → List ℕ → FilesInMemory
 after_open s name =
     if fails_to_open s name
-    then record s { calls = raised s.calls; faults = raised s.faults; asked = cut name; blamed = cut name; left = [] }
-    else record s { calls = raised s.calls; asked = cut name; left = unwrap_or (first_of s.files name) [] }
+    then record s { calls = raised s.calls; faults = raised s.faults; asked = cut name; blamed = cut name; is_open = false; left = [] }
+    else record s { calls = raised s.calls; asked = cut name; is_open = true; left = unwrap_or (first_of s.files name) [] }
 
 -- after a read that gave so many bytes, or failed
 abbrev pub after_read : FilesInMemory → ℕ → FilesInMemory

@@ -1,3 +1,5 @@
+//! Counts of calls and faults.
+
 ghost use Rattle.std.specs.Prelude.{◌≡◌, ◌==◌};
 ghost use Rattle.std.specs.List.{list_any};
 ghost use Rattle.outside.specs.Fault.{raised};

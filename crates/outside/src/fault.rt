@@ -1,3 +1,5 @@
+//! Why a call outside failed.
+
 use crate::memory::NoMemory;
 use thiserror::Error;
 

@@ -1,3 +1,5 @@
+//! The host's files.
+
 ghost use Rattle.std.specs.Prelude.{◌≡◌, ℕ, ◌≤◌, false, List, [], Option, None};
 ghost use Rattle.outside.specs.Fault.{raised};
 ghost use Rattle.outside.specs.Host.{left_of};
@@ -44,7 +46,7 @@ impl<'a, R: rt::Files> HostFiles<'a, R> {
         }
     }
 
-    // Counts a fault, at the name last asked for.
+    /// Counts a fault, at the name last asked for.
     fn count_fault(&mut self)
         ensures counted { self.new ≡ record self.old { faults = raised self.old.faults; blamed = self.old.asked } }
         ensures rises { self.old.faults ≤ self.new.faults }
@@ -62,6 +64,8 @@ impl<'a, R: rt::Files> Files for HostFiles<'a, R> {
     ghost blamed = { λ h. h.blamed };
 
     ghost content = { λ _. None };
+
+    ghost is_open = { λ h. h.is_open };
 
     ghost left = { left_of };
 

@@ -1,3 +1,5 @@
+//! The host's standard output.
+
 ghost use Rattle.std.specs.Prelude.{◌≡◌, ℕ, ◌≤◌, true, Option, None, IfOk};
 ghost use Rattle.outside.specs.Fault.{raised};
 
@@ -42,7 +44,7 @@ impl<'a, P: Print> HostOut<'a, P> {
         }
     }
 
-    // Counts a fault, and answers it.
+    /// Counts a fault, and answers it.
     fn count_fault(&mut self) -> Failed
         ensures counted { self.new ≡ record self.old { faults = raised self.old.faults } }
         ensures rises { self.old.faults ≤ self.new.faults }

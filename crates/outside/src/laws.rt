@@ -1,3 +1,5 @@
+//! Laws of the definitions. Each is a function with nothing to do, whose contract is the law.
+
 ghost use Rattle.std.specs.Prelude.{◌≡◌, ℕ, ◌+◌, ◌≤◌, [], length};
 ghost use Rattle.outside.specs.Fault.{Rose};
 ghost use Rattle.outside.specs.SureFiles.{FilesForSure};

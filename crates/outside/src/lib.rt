@@ -3,7 +3,8 @@
 //! The lowest layer. It stands on the kit's libraries alone, and everything above reaches files and
 //! standard output through its two traits, `Files` and `Sink`. Faults are counted, so that each layer
 //! above can say that a fault is the outside's: `specs/Fault.antt` says what "the count rose" means,
-//! `specs/Content.antt` what files contain, `specs/Taken.antt` what a sink takes.
+//! `specs/Content.antt` what files contain, `specs/Limit.antt` how long a file may be, `specs/Taken.antt` what a
+//! sink takes and `specs/Pieces.antt` what the writer of a text does to it.
 #![tactic(auto)]
 
 mod bytes;
@@ -37,7 +38,7 @@ pub use named_file::NamedFile;
 pub use reading::{FILE_LIMIT, read_all};
 pub use sink::Sink;
 pub use sure_files::SureFiles;
-pub use writing::write_all;
+pub use writing::{write_all, write_pieces};
 
 #[cfg(test)]
 mod tests;

@@ -1,4 +1,6 @@
-ghost use Rattle.std.specs.Prelude.{◌≡◌, ℕ, ◌≤◌, List, [], min, length, Option, Some, IsErrOf, IfOk, IfErr, OnOk, OnErr, is_err};
+//! Files in memory.
+
+ghost use Rattle.std.specs.Prelude.{◌≡◌, ℕ, ◌≤◌, Bool, true, false, List, [], min, length, Option, Some, IsErrOf, IfOk, IfErr, OnOk, OnErr, is_err};
 ghost use Rattle.std.specs.Result.{result_unwrap_or};
 ghost use Rattle.std.specs.Io.{ReadsAtMost};
 ghost use Rattle.std.specs.Io.KnownBytes.{ReadConsumes};
@@ -39,6 +41,7 @@ impl Model for MemFiles {
       faults = m.faults;
       asked = m.asked;
       blamed = m.blamed;
+      is_open = m.shelf.is_open;
       left = m.shelf.left;
     } };
 }
@@ -53,6 +56,7 @@ impl MemFiles {
           faults = 0;
           asked = [];
           blamed = [];
+          is_open = false;
           left = [];
         } }
     {
@@ -66,7 +70,7 @@ impl MemFiles {
         }
     }
 
-    // Counts a call, and says whether it is to fail.
+    /// Counts a call, and says whether it is to fail.
     fn count_call(&mut self) -> bool
         ensures fails { result ≡ fails_to_read self.old }
         ensures counted { self.new ≡ record self.old { calls = raised self.old.calls } }
@@ -75,7 +79,7 @@ impl MemFiles {
         is_listed(&self.fail, self.calls)
     }
 
-    // Counts a fault, at the name last asked for.
+    /// Counts a fault, at the name last asked for.
     fn count_fault(&mut self)
         ensures counted { self.new ≡ record self.old { faults = raised self.old.faults; blamed = self.old.asked } }
         ensures rises { self.old.faults ≤ self.new.faults }
@@ -94,6 +98,8 @@ impl Files for MemFiles {
 
     ghost content = { λ m. Some (content_of m) };
 
+    ghost is_open = { λ m. m.is_open };
+
     ghost left = { λ m. Some m.left };
 
     fn open_file(&mut self, name: &str) -> Result<(), OpenFault>
@@ -104,8 +110,10 @@ impl Files for MemFiles {
         ensures blamed { IsErrOf result OpenFault.Failed → self.new.blamed ≡ cut name.now }
         ensures unblamed { BlamesNone result self.old.blamed self.new.blamed }
         ensures content { Some (content_of self.new) ≡ Some (content_of self.old) }
+        ensures opened { OnOk result (self.new.is_open ≡ true) }
         ensures placed { OnOk result (StandsAt (Some (content_of self.old)) name.now (Some self.new.left)) }
-        ensures closed { OnErr result (Some self.new.left ≡ Some []) }
+        ensures closed { OnErr result (self.new.is_open ≡ false) }
+        ensures nothing_left { OnErr result (Some self.new.left ≡ Some []) }
 
         // Exactly when it fails, and what it leaves.
         ensures fails { is_err result ≡ fails_to_open self.old name.now }
@@ -125,6 +133,7 @@ impl Files for MemFiles {
     fn read(&mut self, buf: &mut [u8]) -> Result<usize, Failed>
         ensures bound { ReadsAtMost result buf.new }
         ensures bytes { ReadConsumes (Some self.old.left) (Some self.new.left) result buf.new }
+        ensures open { self.new.is_open ≡ self.old.is_open }
         ensures counted { self.old.faults ≤ self.new.faults }
         ensures failed { OnErr result (Rose self.old.faults self.new.faults) }
         ensures asked { self.new.asked ≡ self.old.asked }

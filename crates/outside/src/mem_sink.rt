@@ -1,3 +1,5 @@
+//! A sink in memory.
+
 ghost use Rattle.std.specs.Prelude.{◌≡◌, ℕ, ◌+◌, ◌-◌, ◌≤◌, Bool, true, false, ◌↔◌, ◌&&◌, List, [], ◌++◌, length, nat_lt, Option, Some, IsTrue, IsOk, IfOk, OnOk, OnErr, is_err};
 ghost use Rattle.std.specs.Bool.{OnTrue, OnFalse};
 ghost use Rattle.std.specs.Io.{WritesAtMost};
@@ -75,7 +77,7 @@ impl MemSink {
         self.taken.as_slice()
     }
 
-    // Counts a call, and says whether it is to fail.
+    /// Counts a call, and says whether it is to fail.
     fn count_call(&mut self) -> bool
         ensures fails { result ≡ fails_to_flush self.old }
         ensures counted { self.new ≡ record self.old { calls = raised self.old.calls } }
@@ -91,7 +93,7 @@ impl MemSink {
         self.faults = raised(self.faults);
     }
 
-    // Takes the piece where it fits, and says whether it did.
+    /// Takes the piece where it fits, and says whether it did.
     fn take(&mut self, piece: &[u8]) -> bool
         ensures fits { IsTrue result ↔ (length self.old.taken + length piece.now ≤ self.old.room) }
         ensures taken { OnTrue result (self.new ≡ record self.old {

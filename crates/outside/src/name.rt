@@ -1,3 +1,5 @@
+//! Names of files, cut and kept without memory.
+
 ghost use Rattle.std.specs.Prelude.{◌≡◌, ◌≤◌, List, ℕ, [], length};
 ghost use Rattle.outside.specs.Content.{cut};
 

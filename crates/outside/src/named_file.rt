@@ -1,3 +1,5 @@
+//! A file by its name.
+
 use crate::bytes::Bytes;
 
 /// A file by its name, in memory.

@@ -1,4 +1,6 @@
-ghost use Rattle.std.specs.Prelude.{◌≡◌, ◌≤◌, ℕ, ◌<◌, [], ◌++◌, Some, length, take, drop, min, find, position, is_some};
+//! Files kept in memory, of which one may be open: what the files in memory stand on.
+
+ghost use Rattle.std.specs.Prelude.{◌≡◌, ◌≤◌, ℕ, ◌<◌, false, [], ◌++◌, Some, length, take, drop, min, find, position, is_some};
 ghost use Rattle.std.specs.Bool.{OnTrue, OnFalse};
 ghost use Rattle.std.specs.List.{slice_get};
 ghost use Rattle.std.specs.Str.{bytes_eq};
@@ -17,17 +19,22 @@ pub struct Shelf {
 }
 
 impl Model for Shelf {
+    ghost use Rattle.std.specs.Prelude.{length, nat_lt};
     ghost use Rattle.outside.specs.Shelf.{Shelved, left_at};
 
     ghost Value = { Shelved };
 
-    ghost view = { λ s. record { files = s.files.items; left = left_at s.files.items s.index s.place } };
+    ghost view = { λ s. record {
+      files = s.files.items;
+      is_open = nat_lt s.index (length s.files.items);
+      left = left_at s.files.items s.index s.place;
+    } };
 }
 
 impl Shelf {
     /// The files with none of them open.
     pub fn new(files: Vec<NamedFile>) -> Shelf
-        ensures { result ≡ record { files = files.items; left = [] } }
+        ensures { result ≡ record { files = files.items; is_open = false; left = [] } }
     {
         let index = files.len();
         Shelf {
@@ -39,7 +46,7 @@ impl Shelf {
 
     /// Closes the open file.
     pub fn close(&mut self)
-        ensures { self.new ≡ record self.old { left = [] } }
+        ensures { self.new ≡ record self.old { is_open = false; left = [] } }
     {
         self.index = self.files.len();
         self.place = 0;
@@ -50,6 +57,7 @@ impl Shelf {
         ensures files { self.new.files ≡ self.old.files }
         ensures found { OnTrue result (first_of self.old.files name.now ≡ Some self.new.left) }
         ensures absent { OnFalse result (self.new.left ≡ []) }
+        ensures open { self.new.is_open ≡ result }
         ensures known { result ≡ is_some (first_of self.old.files name.now) }
     {
         self.index = index_of(&self.files, name);
@@ -72,7 +80,7 @@ impl Shelf {
     }
 }
 
-// The index of the first file of that name, or the number of files where there is none.
+/// The index of the first file of that name, or the number of files where there is none.
 fn index_of(files: &[NamedFile], name: &[u8]) -> usize
     ensures bound { result ≤ length files.now }
     ensures first { find (λ f. bytes_eq f.name name.now) files.now ≡ slice_get files.now result }
@@ -86,7 +94,7 @@ fn position_of(files: &[NamedFile], name: &[u8]) -> Option<usize>
     files.iter().position(|f| f.name.as_slice() == name)
 }
 
-// Copies the bytes from that place on, as many as there are and fit.
+/// Copies the bytes from that place on, as many as there are and fit.
 fn copy_from(bytes: &[u8], place: usize, buf: &mut [u8]) -> usize
     ensures count { result ≡ min (length buf.old) (length (drop place bytes.now)) }
     ensures given { take result buf.new ≡ take result (drop place bytes.now) }

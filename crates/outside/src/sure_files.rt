@@ -1,4 +1,6 @@
-ghost use Rattle.std.specs.Prelude.{◌≡◌, ℕ, ◌≤◌, List, [], min, length, Option, Ok, Some, IsErrOf, IsOk, OnOk, OnErr};
+//! Files in memory of which no call fails.
+
+ghost use Rattle.std.specs.Prelude.{◌≡◌, ℕ, ◌≤◌, Bool, true, false, List, [], min, length, Option, Ok, Some, IsErrOf, IsOk, OnOk, OnErr};
 ghost use Rattle.std.specs.Result.{result_unwrap_or};
 ghost use Rattle.std.specs.Io.{ReadsAtMost};
 ghost use Rattle.std.specs.Io.KnownBytes.{ReadConsumes};
@@ -19,6 +21,8 @@ use std::marker::Model;
 pub struct SureFiles {
     shelf: Shelf,
     asked: Name,
+    // The shelf has no file open where the name is unknown; here an empty one is.
+    is_open: bool,
 }
 
 impl Model for SureFiles {
@@ -26,17 +30,18 @@ impl Model for SureFiles {
 
     ghost Value = { FilesForSure };
 
-    ghost view = { λ s. record { files = s.shelf.files; asked = s.asked; left = s.shelf.left } };
+    ghost view = { λ s. record { files = s.shelf.files; asked = s.asked; is_open = s.is_open; left = s.shelf.left } };
 }
 
 impl SureFiles {
     /// The files of the list.
     pub fn new(list: Vec<NamedFile>) -> SureFiles
-        ensures { result ≡ record { files = list.items; asked = []; left = [] } }
+        ensures { result ≡ record { files = list.items; asked = []; is_open = false; left = [] } }
     {
         SureFiles {
             shelf: Shelf::new(list),
             asked: Name::empty(),
+            is_open: false,
         }
     }
 }
@@ -50,6 +55,8 @@ impl Files for SureFiles {
 
     ghost content = { λ s. Some (sure_content s) };
 
+    ghost is_open = { λ s. s.is_open };
+
     ghost left = { λ s. Some s.left };
 
     fn open_file(&mut self, name: &str) -> Result<(), OpenFault>
@@ -60,8 +67,10 @@ impl Files for SureFiles {
         ensures blamed { IsErrOf result OpenFault.Failed → blamed_of self.new ≡ cut name.now }
         ensures unblamed { BlamesNone result (blamed_of self.old) (blamed_of self.new) }
         ensures content { Some (sure_content self.new) ≡ Some (sure_content self.old) }
+        ensures opened { OnOk result (self.new.is_open ≡ true) }
         ensures placed { OnOk result (StandsAt (Some (sure_content self.old)) name.now (Some self.new.left)) }
-        ensures closed { OnErr result (Some self.new.left ≡ Some []) }
+        ensures closed { OnErr result (self.new.is_open ≡ false) }
+        ensures nothing_left { OnErr result (Some self.new.left ≡ Some []) }
 
         // It never fails, and this is what it leaves.
         ensures succeeds { IsOk result }
@@ -69,12 +78,14 @@ impl Files for SureFiles {
     {
         self.asked = Name::cut(name.as_bytes());
         let _is_known = self.shelf.open(name.as_bytes());
+        self.is_open = true;
         Ok(())
     }
 
     fn read(&mut self, buf: &mut [u8]) -> Result<usize, Failed>
         ensures bound { ReadsAtMost result buf.new }
         ensures bytes { ReadConsumes (Some self.old.left) (Some self.new.left) result buf.new }
+        ensures open { self.new.is_open ≡ self.old.is_open }
         ensures counted { faults_of self.old ≤ faults_of self.new }
         ensures failed { OnErr result (Rose (faults_of self.old) (faults_of self.new)) }
         ensures asked { self.new.asked ≡ self.old.asked }

@@ -27,6 +27,7 @@ fn two_files(alloc: Global) -> Result<Vec<NamedFile>, NoMemory> {
 fn bytes_are_copied(rt: HostRuntime) -> Result<(), Fail> {
     let bytes = Bytes::of(rt.alloc(), b"Hi")?;
     let again = bytes.copy(rt.alloc())?;
+    assert!(rt; again == bytes && again != Bytes::of(rt.alloc(), b"Hu")?);
     assert_eq!(rt; again.as_slice(), b"Hi".as_slice());
     assert_eq!(rt;
         Bytes::from_vec(again.into_vec()).as_slice(),

@@ -1,7 +1,10 @@
+//! Writing a piece whole, and a text piece by piece.
+
 ghost use Rattle.std.specs.Prelude.{◌≡◌, ℕ, ◌-◌, ◌<◌, ◌≤◌, [], length, drop, IsOk, OnOk, OnErr};
 ghost use Rattle.std.specs.Io.KnownBytes.{Appends};
 ghost use Rattle.outside.specs.Fault.{Rose};
 ghost use Rattle.outside.specs.Taken.{AppendsFront};
+ghost use Rattle.outside.specs.Pieces.{joined, Writes};
 
 use crate::fault::Failed;
 use crate::sink::Sink;
@@ -26,7 +29,17 @@ pub fn write_all<S: Sink>(out: &mut S, piece: &[u8]) -> Result<(), Failed>
     Ok(())
 }
 
-// What is left of the piece behind so many bytes.
+/// Writes the pieces whole, one behind the other. After a failure the sink took a front of them.
+pub fn write_pieces<S: Sink>(out: &mut S, pieces: &[&[u8]]) -> Result<(), Failed>
+    ensures { Writes result (S.taken out.old) (S.taken out.new) (S.faults out.old) (S.faults out.new) (joined pieces.now) }
+{
+    for piece in pieces {
+        write_all(out, piece)?;
+    }
+    Ok(())
+}
+
+/// What is left of the piece behind so many bytes.
 fn left_after(piece: &[u8], count: usize) -> &[u8]
     requires { count ≤ length piece.now }
     ensures { result.now ≡ drop count piece.now }

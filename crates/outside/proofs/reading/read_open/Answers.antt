@@ -8,5 +8,6 @@ loop-files-preserved g c = record {
   within = search rules;
   counted = search rules;
   asked = search rules;
+  opened = search rules;
   content = search rules;
 }
