@@ -2,7 +2,7 @@
 use Rattle.std.specs.Prelude.{ℕ, ◌+◌, ◌-◌, ◌*◌, ◌/◌, ◌%◌, ◌^◌, ◌==◌, Bool, pos, bit_and, if◌then◌else◌}
 use Rattle.std.specs.Int.{w32, cast_unsigned}
 use Rattle.insn.specs.Fields.{rt_field, ra_field, rb_field, immediate, signed_immediate, record_bit, overflow_bit}
-use Rattle.guest_regs.specs.Registers.{Registers, gpr_of, with_gpr, instruction_address, advanced, xer_bits}
+use Rattle.guest_regs.specs.Registers.{Registers, gpr_of, gpr_or_zero, with_gpr, instruction_address, advanced, xer_bits}
 use Rattle.insn_alu.specs.Numbers.{signed_value, compared}
 
 -- another digit at a place of a number that is written in a base
@@ -67,7 +67,7 @@ abbrev pub s_of : ℕ → Registers → ℕ
 s_of word registers = gpr_of registers (rt_field word)
 
 abbrev pub base_of : ℕ → Registers → ℕ
-base_of word registers = if ra_field word == 0 then 0 else a_of word registers
+base_of word registers = gpr_or_zero registers (ra_field word)
 
 -- EXTS(SI): the immediate with copies of its sign, as 32 bits
 abbrev pub extended_immediate : ℕ → ℕ

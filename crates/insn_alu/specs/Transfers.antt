@@ -6,8 +6,8 @@ use Rattle.std.specs.List.{flat_map}
 use Rattle.std.specs.Int.{w16, w32, cast_signed, cast_unsigned, from_be_bytes, from_le_bytes, to_be_bytes, to_le_bytes}
 use Rattle.insn.specs.declared.instruction.Op.{Op}
 use Rattle.insn.specs.declared.instruction.Op.TheVariants as op
-use Rattle.insn.specs.Fields.{rt_field, ra_field}
-use Rattle.guest_regs.specs.Registers.{Registers, with_gpr, advanced}
+use Rattle.insn.specs.Fields.{rt_field, ra_field, rb_field}
+use Rattle.guest_regs.specs.Registers.{Registers, indexed_address, with_gpr, advanced}
 use Rattle.insn_alu.specs.declared.effect.Form.{Form}
 use Rattle.insn_alu.specs.declared.effect.Form.TheVariants as form
 use Rattle.insn_alu.specs.declared.effect.Access.{Access}
@@ -75,7 +75,7 @@ transfer_of other = store_of other
 unfoldable pub effective : Addressing → ℕ → Registers → ℕ
 effective Displaced word registers = (base_of word registers + extended_immediate word) % 2 ^ 32
 effective DisplacedUpdate word registers = (a_of word registers + extended_immediate word) % 2 ^ 32
-effective Indexed word registers = (base_of word registers + b_of word registers) % 2 ^ 32
+effective Indexed word registers = indexed_address registers (ra_field word) (rb_field word)
 effective IndexedUpdate word registers = (a_of word registers + b_of word registers) % 2 ^ 32
 
 -- how many bytes: lmw and stmw have a word for each register from RT on

@@ -11,7 +11,7 @@ use crate::fields::{a_of, b_of, base_of, extended_immediate, replace_field, s_of
 use crate::moves::transfer_by;
 use crate::transfer::{Addressing, Kind, Transfer};
 use arrayvec::ArrayVec;
-use guest_regs::Regs;
+use guest_regs::{Regs, push_word};
 use insn::Insn;
 
 /// The effective address.
@@ -22,7 +22,7 @@ fn effective_of(addressing: Addressing, insn: Insn, regs: &Regs) -> u32
     match addressing {
         Addressing::Displaced => base_of(insn, regs).wrapping_add(extended_immediate(insn)),
         Addressing::DisplacedUpdate => a_of(insn, regs).wrapping_add(extended_immediate(insn)),
-        Addressing::Indexed => base_of(insn, regs).wrapping_add(b_of(insn, regs)),
+        Addressing::Indexed => regs.indexed_address(insn.ra(), insn.rb()),
         Addressing::IndexedUpdate => a_of(insn, regs).wrapping_add(b_of(insn, regs)),
     }
 }
@@ -38,7 +38,7 @@ fn size_by(kind: Kind, insn: Insn) -> u8
         Kind::Word => 4,
         Kind::ReversedHalf => 2,
         Kind::ReversedWord => 4,
-        Kind::Words => (4 * (32 - insn.rt())) as u8,
+        Kind::Words => 4 * (32 - insn.rt()),
         Kind::Exclusive => 4,
         Kind::Block => 64,
     }
@@ -83,7 +83,7 @@ fn update(addressing: Addressing, insn: Insn, regs: &mut Regs, address: u32)
     match addressing {
         Addressing::Displaced | Addressing::Indexed => {}
         Addressing::DisplacedUpdate | Addressing::IndexedUpdate => {
-            regs.set_gpr(insn.ra() as u8, address);
+            regs.set_gpr(insn.ra(), address);
         }
     }
 }
@@ -141,9 +141,9 @@ fn fill_words(insn: Insn, regs: &mut Regs, bytes: &[u8])
 {
     let first = insn.rt();
     for n in first..32 {
-        let start = 4 * (n - first);
+        let start = 4 * (n - first) as usize;
         let word = word_from(&bytes[start..start + 4]);
-        regs.set_gpr(n as u8, word);
+        regs.set_gpr(n, word);
     }
 }
 
@@ -157,7 +157,7 @@ fn fill(kind: Kind, insn: Insn, regs: &mut Regs, bytes: &[u8])
         Kind::Words => fill_words(insn, regs, bytes),
         _ => {
             let value = value_from(kind, insn, bytes);
-            regs.set_gpr(insn.rt() as u8, value);
+            regs.set_gpr(insn.rt(), value);
         }
     }
 }
@@ -215,21 +215,9 @@ fn words_of(insn: Insn, regs: &Regs) -> ArrayVec<u8, 128>
     let first = insn.rt();
     let mut bytes = ArrayVec::new();
     for n in first..32 {
-        push_word(&mut bytes, regs.gpr(n as u8));
+        push_word(&mut bytes, regs.gpr(n));
     }
     bytes
-}
-
-fn push_word(bytes: &mut ArrayVec<u8, 128>, word: u32)
-    requires { array_vec_len bytes.old ≤ 124 }
-    ensures bytes { bytes.new.items ≡ bytes.old.items ++ to_be_bytes w32 word }
-    ensures length { array_vec_len bytes.new ≡ array_vec_len bytes.old + 4 }
-{
-    let [first, second, third, last] = word.to_be_bytes();
-    bytes.push(first);
-    bytes.push(second);
-    bytes.push(third);
-    bytes.push(last);
 }
 
 fn bytes_of(piece: &[u8]) -> ArrayVec<u8, 128>

@@ -113,31 +113,28 @@ fn record_result(regs: &mut Regs, value: u32)
 pub fn a_of(insn: Insn, regs: &Regs) -> u32
     ensures { result ≡ a_of insn.word regs.now }
 {
-    regs.gpr(insn.ra() as u8)
+    regs.gpr(insn.ra())
 }
 
 /// (RB)
 pub fn b_of(insn: Insn, regs: &Regs) -> u32
     ensures { result ≡ b_of insn.word regs.now }
 {
-    regs.gpr(insn.rb() as u8)
+    regs.gpr(insn.rb())
 }
 
 /// (RS)
 pub fn s_of(insn: Insn, regs: &Regs) -> u32
     ensures { result ≡ s_of insn.word regs.now }
 {
-    regs.gpr(insn.rt() as u8)
+    regs.gpr(insn.rt())
 }
 
 /// (RA|0)
 pub fn base_of(insn: Insn, regs: &Regs) -> u32
     ensures { result ≡ base_of insn.word regs.now }
 {
-    match insn.ra() {
-        0 => 0,
-        number => regs.gpr(number as u8),
-    }
+    regs.gpr_or_zero(insn.ra())
 }
 
 /// The immediate with copies of its sign.
@@ -156,28 +153,28 @@ pub fn upper(insn: Insn) -> u32
 
 /// A register takes its result.
 #[tactic(auto, unfolding(crate::specs::Fields::result_in))]
-pub fn set_result(regs: &mut Regs, number: usize, value: u32)
+pub fn set_result(regs: &mut Regs, number: u8, value: u32)
     requires { number < 32 }
     ensures { regs.new ≡ result_in number value regs.old }
 {
-    regs.set_gpr(number as u8, value);
+    regs.set_gpr(number, value);
     regs.advance();
 }
 
 /// A register takes its result, and CR0 compares it.
 #[tactic(auto, unfolding(crate::specs::Fields::result_recorded))]
-pub fn set_recorded(regs: &mut Regs, number: usize, value: u32)
+pub fn set_recorded(regs: &mut Regs, number: u8, value: u32)
     requires { number < 32 }
     ensures { regs.new ≡ result_recorded number value regs.old }
 {
-    regs.set_gpr(number as u8, value);
+    regs.set_gpr(number, value);
     record_result(regs, value);
     regs.advance();
 }
 
 /// A register takes its result, and CR0 compares it where Rc is 1.
 #[tactic(auto, unfolding(crate::specs::Fields::result_in_form))]
-pub fn set_in_form(insn: Insn, regs: &mut Regs, number: usize, value: u32)
+pub fn set_in_form(insn: Insn, regs: &mut Regs, number: u8, value: u32)
     requires { number < 32 }
     ensures { regs.new ≡ result_in_form insn.word number value regs.old }
 {

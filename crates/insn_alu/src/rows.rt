@@ -51,7 +51,7 @@ pub fn add_carrying(insn: Insn, regs: &mut Regs, left: u32, right: u32, carry: u
 }
 
 #[tactic(auto, unfolding(crate::specs::Rows::carrying_in))]
-pub fn carry_in(regs: &mut Regs, number: usize, left: u32, right: u32, carry: u32)
+pub fn carry_in(regs: &mut Regs, number: u8, left: u32, right: u32, carry: u32)
     requires number { number < 32 }
     requires carry { carry < 2 }
     ensures { regs.new ≡ carrying_in number left right carry regs.old }
@@ -62,7 +62,7 @@ pub fn carry_in(regs: &mut Regs, number: usize, left: u32, right: u32, carry: u3
 }
 
 #[tactic(auto, unfolding(crate::specs::Rows::carrying_recorded))]
-pub fn carry_recorded(regs: &mut Regs, number: usize, left: u32, right: u32, carry: u32)
+pub fn carry_recorded(regs: &mut Regs, number: u8, left: u32, right: u32, carry: u32)
     requires number { number < 32 }
     requires carry { carry < 2 }
     ensures { regs.new ≡ carrying_recorded number left right carry regs.old }
