@@ -1,5 +1,6 @@
 -- The registers of a core (Power ISA 2.06: Book I, sections 2.3 and 3.2; Book III-E, chapters 4 to 7 and 9).
-use Rattle.std.specs.Prelude.{ℕ, ◌+◌, ◌-◌, ◌%◌, ◌/◌, ◌^◌, ◌==◌, Bool, false, List, Option, None, replicate, slice_index, slice_set, bit_and, bit_or}
+use Rattle.std.specs.Prelude.{ℕ, ◌+◌, ◌-◌, ◌%◌, ◌^◌, ◌==◌, Bool, false, List, Option, None, replicate, slice_index, slice_set, bit_and, bit_or, if◌then◌else◌}
+use Rattle.guest_regs.specs.State.{is_set, guest_state, problem_state, instruction_address_space, data_address_space, state_bits}
 
 pub record Registers : Type 0 where
   -- general registers 0 to 31
@@ -58,6 +59,14 @@ gpr_of registers n = slice_index registers.gpr n
 abbrev pub with_gpr : Registers → ℕ → ℕ → Registers
 with_gpr registers n value = record registers { gpr = slice_set registers.gpr n value }
 
+-- (RA|0): what general register n holds, and 0 where n is 0
+abbrev pub gpr_or_zero : Registers → ℕ → ℕ
+gpr_or_zero registers n = if n == 0 then 0 else gpr_of registers n
+
+-- the effective address (RA|0) + (RB) (Book I, section 1.10.3)
+abbrev pub indexed_address : Registers → ℕ → ℕ → ℕ
+indexed_address registers ra rb = (gpr_or_zero registers ra + gpr_of registers rb) % 2 ^ 32
+
 -- An instruction stands at a multiple of 4, so the last two bits of its address aren't kept.
 abbrev pub instruction_address : ℕ → ℕ
 instruction_address value = value - value % 4
@@ -66,20 +75,20 @@ instruction_address value = value - value % 4
 unfoldable pub advanced : Registers → Registers
 advanced registers = record registers { pc = instruction_address ((registers.pc + 4) % 2 ^ 32) }
 
--- MSR keeps CE, EE, PR, ME, IS and DS. GS is 1, since the core is a guest's.
+-- GS is 1, since the core is a guest's.
 abbrev pub machine_state : ℕ → ℕ
-machine_state value = bit_or (bit_and value 0x0002D030) 0x10000000
+machine_state value = bit_or (bit_and value state_bits) guest_state
 
--- PR, bit 49 of 64: the problem state, in which user programs run
+-- whether a user program runs
 abbrev pub in_problem_state : Registers → Bool
-in_problem_state registers = registers.msr / 2 ^ 14 % 2 == 1
+in_problem_state registers = is_set problem_state registers.msr
 
--- IS and DS, bits 58 and 59: the address spaces of instructions and of data
+-- the address spaces of instructions and of data
 abbrev pub instruction_space : Registers → Bool
-instruction_space registers = registers.msr / 2 ^ 5 % 2 == 1
+instruction_space registers = is_set instruction_address_space registers.msr
 
 abbrev pub data_space : Registers → Bool
-data_space registers = registers.msr / 2 ^ 4 % 2 == 1
+data_space registers = is_set data_address_space registers.msr
 
 -- the bits that these registers keep
 abbrev pub xer_bits : ℕ
@@ -127,7 +136,7 @@ boot_registers entry tree core =
       lr = 0;
       ctr = 0;
       pc = entry;
-      msr = 0x10000000;
+      msr = guest_state;
       dec = 0;
       decar = 0;
       srr0 = 0;

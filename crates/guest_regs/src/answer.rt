@@ -1,3 +1,5 @@
+//! What `mfspr` and `mtspr` come to.
+
 /// What reading a special register by its number gives.
 #[derive(Clone, Copy, Debug, PartialEq, Eq)]
 pub enum ReadAnswer {

@@ -21,6 +21,7 @@ fn special_of_number(number: u32) -> Special
     }
 }
 
+/// A register that has a number of its own.
 #[tactic(auto, unfolding(crate::specs::Special::numbers))]
 fn single(number: u32) -> Special
     ensures special { result ≡ special_among numbers number }
@@ -81,7 +82,7 @@ fn value_of(regs: &Regs, special: Special) -> u32
         Special::Srr1 => regs.srr1(),
         Special::Dear => regs.dear(),
         Special::Esr => regs.esr(),
-        Special::Pid => regs.pid(),
+        Special::Pid => regs.pid() as u32,
         Special::Csrr0 => regs.csrr0(),
         Special::Csrr1 => regs.csrr1(),
         Special::Mcsrr0 => regs.mcsrr0(),
@@ -92,6 +93,7 @@ fn value_of(regs: &Regs, special: Special) -> u32
     }
 }
 
+/// What the others read as, of which an unlisted one has 0.
 #[tactic(auto, unfolding(crate::specs::Special::other_value))]
 fn other_value_of(regs: &Regs, special: Special) -> u32
     requires { IsInRun special }
@@ -150,6 +152,7 @@ fn set(regs: &mut Regs, special: Special, value: u32)
     }
 }
 
+/// Writes one of the others. What is unlisted or can only be read stays.
 #[tactic(auto, unfolding(crate::specs::Special::other_written))]
 fn set_other(regs: &mut Regs, special: Special, value: u32)
     requires { IsInRun special }

@@ -1,8 +1,11 @@
 //! The registers of a core, and those that have a reader and a writer by name.
 
 ghost use Rattle.std.specs.Prelude.{◌≡◌, ℕ, ◌<◌, ◌%◌, ◌^◌, length, slice_index, slice_set, bit_and};
-ghost use Rattle.guest_regs.specs.Registers.{Registers, instruction_address, advanced, machine_state, in_problem_state, instruction_space, data_space, version, first_tlb_shape, second_tlb_shape, ivor_bits, boot_registers, xer_bits, pid_bits, ivpr_bits, mas7_bits, l1csr0_bits, l1csr1_bits, bucsr_bits};
+ghost use Rattle.guest_regs.specs.Kept.{AreKept};
+ghost use Rattle.guest_regs.specs.Registers.{Registers, gpr_or_zero, indexed_address, instruction_address, advanced, machine_state, version, first_tlb_shape, second_tlb_shape, ivor_bits, boot_registers, xer_bits, pid_bits, ivpr_bits, mas7_bits, l1csr0_bits, l1csr1_bits, bucsr_bits};
 
+use crate::msr;
+use crate::widths::{assists_fit, branches_fit, interrupts_fit, marks_fit, timers_fit, words_fit};
 use std::marker::Model;
 
 const GENERAL_REGISTERS: usize = 32;
@@ -16,21 +19,6 @@ const EPAPR_MAGIC: u32 = 0x4550_4150;
 
 /// The bytes from address 0 that are mapped when a client program starts.
 const INITIAL_AREA: u32 = 0x0400_0000;
-
-/// GS of the MSR, which is 1 for a guest.
-const GUEST_STATE: u32 = 0x1000_0000;
-
-/// PR of the MSR, which is 1 for a user program.
-const PROBLEM_STATE: u32 = 0x4000;
-
-/// IS of the MSR, the address space of instructions.
-const INSTRUCTION_SPACE: u32 = 0x20;
-
-/// DS of the MSR, the address space of data.
-const DATA_SPACE: u32 = 0x10;
-
-/// CE, EE, PR, ME, IS and DS of the MSR.
-const STATE_BITS: u32 = 0x0002_D030;
 
 /// The registers of a core. Contracts see the record `Registers` of its definition.
 ///
@@ -51,7 +39,7 @@ pub struct Regs {
     srr1: u32,
     dear: u32,
     esr: u32,
-    pid: u32,
+    pid: u16,
     csrr0: u32,
     csrr1: u32,
     mcsrr0: u32,
@@ -79,8 +67,8 @@ pub struct Regs {
 }
 
 impl Model for Regs {
-    ghost use Rattle.std.specs.Prelude.{◌≡◌, ℕ, ◌%◌, ◌<◌, ◌^◌};
     ghost use Rattle.guest_regs.specs.Registers.{Registers};
+    ghost use Rattle.guest_regs.specs.Kept.{HaveTheirBits};
 
     ghost Value = { Registers };
 
@@ -125,7 +113,7 @@ impl Model for Regs {
       idle = regs.idle;
     } };
 
-    ghost invariant = { λ regs. (regs.pc % 4 ≡ 0) × (regs.pid < 2 ^ 14) × (regs.mas7 < 16) };
+    ghost invariant = { λ regs. HaveTheirBits regs.pc regs.msr regs.xer regs.pid regs.ivpr regs.ivor regs.mas7 regs.l1csr0 regs.l1csr1 regs.bucsr };
 }
 
 /// The registers of a core that starts at `entry`, with the device tree at the effective address `tree_at`. `core`
@@ -146,7 +134,7 @@ pub fn boot(entry: u32, tree_at: u32, core: u32) -> Regs
         lr: 0,
         ctr: 0,
         pc: entry,
-        msr: GUEST_STATE,
+        msr: msr::GUEST_STATE,
         dec: 0,
         decar: 0,
         srr0: 0,
@@ -181,6 +169,23 @@ pub fn boot(entry: u32, tree_at: u32, core: u32) -> Regs
     }
 }
 
+/// What the registers keep.
+impl Regs {
+    /// Does nothing. Its contract tells layers above what the registers keep at all times.
+    pub fn are_kept(&self)
+        ensures { AreKept self.now }
+    {
+        branches_fit(self);
+        interrupts_fit(self);
+        timers_fit(self);
+        assists_fit(self);
+        marks_fit(self);
+        words_fit(&self.gpr);
+        words_fit(&self.ivor);
+        words_fit(&self.sprg);
+    }
+}
+
 /// The registers that have a number among their kind, the counters and the marks.
 impl Regs {
     /// General register `n`, below 32 (Power ISA 2.06, Book I, section 3.2.1).
@@ -201,6 +206,23 @@ impl Regs {
         self.gpr[n as usize] = value;
     }
 
+    /// (RA|0): what general register `n` holds, and 0 where `n` is 0 (Power ISA 2.06, Book I, section 1.10.3).
+    pub fn gpr_or_zero(&self, n: u8) -> u32
+        requires { n < 32 }
+        ensures { result ≡ gpr_or_zero self.now n }
+    {
+        if n == 0 { 0 } else { self.gpr(n) }
+    }
+
+    /// The effective address (RA|0) + (RB), by the numbers of both registers (Power ISA 2.06, Book I, section 1.10.3).
+    pub fn indexed_address(&self, ra: u8, rb: u8) -> u32
+        requires base { ra < 32 }
+        requires index { rb < 32 }
+        ensures { result ≡ indexed_address self.now ra rb }
+    {
+        self.gpr_or_zero(ra).wrapping_add(self.gpr(rb))
+    }
+
     /// Interrupt vector offset register `n`, below 16: the lower half of a handler's address (Power ISA 2.06, Book III-E, chapter 7).
     pub fn ivor(&self, n: u8) -> u32
         requires { n < 16 }
@@ -211,6 +233,7 @@ impl Regs {
     }
 
     /// Writes interrupt vector offset register `n`, below 16: the lower half of a handler's address.
+    #[tactic(auto, using(crate::proofs::Masks::offset_set))]
     pub fn set_ivor(&mut self, n: u8, value: u32)
         requires { n < 16 }
         ensures written { self.new ≡ record self.old { ivor = slice_set self.old.ivor n (bit_and value ivor_bits) } }
@@ -302,29 +325,6 @@ impl Regs {
         self.set_pc(self.pc.wrapping_add(4));
     }
 
-    /// Whether MSR[PR] is set: a user program runs, and has no privileged instructions (Power ISA 2.06, Book III-E,
-    /// chapter 4).
-    pub fn is_user(&self) -> bool
-        ensures { result ≡ in_problem_state self.now }
-    {
-        self.msr / PROBLEM_STATE % 2 == 1
-    }
-
-    /// MSR[IS], the address space that instructions are fetched from: 1 where it is set (Power ISA 2.06, Book III-E,
-    /// chapter 4).
-    pub fn instruction_space(&self) -> bool
-        ensures { result ≡ instruction_space self.now }
-    {
-        self.msr / INSTRUCTION_SPACE % 2 == 1
-    }
-
-    /// MSR[DS], the address space of loads and stores: 1 where it is set (Power ISA 2.06, Book III-E, chapter 4).
-    pub fn data_space(&self) -> bool
-        ensures { result ≡ data_space self.now }
-    {
-        self.msr / DATA_SPACE % 2 == 1
-    }
-
     /// The machine state register, in which GS is always 1 (Power ISA 2.06, Book III-E, chapter 4).
     pub fn msr(&self) -> u32
         ensures { result ≡ self.now.msr }
@@ -333,10 +333,11 @@ impl Regs {
     }
 
     /// Writes CE, EE, PR, ME, IS and DS of the machine state register.
+    #[tactic(auto, using(crate::proofs::Masks::state_twice))]
     pub fn set_msr(&mut self, value: u32)
         ensures { self.new ≡ record self.old { msr = machine_state value } }
     {
-        self.msr = value & STATE_BITS | GUEST_STATE;
+        self.msr = value & msr::STATE_BITS | msr::GUEST_STATE;
     }
 
     /// The core's place in its partition, from 0 (Power ISA 2.06, Book III-E, chapter 5).
@@ -392,6 +393,7 @@ impl Regs {
     }
 
     /// Writes the bits 0xE000_007F of the register.
+    #[tactic(auto, using(crate::proofs::Masks::mask_twice))]
     pub fn set_xer(&mut self, value: u32)
         ensures { self.new ≡ record self.old { xer = bit_and value xer_bits } }
     {
@@ -511,7 +513,7 @@ impl Regs {
     }
 
     /// The process of the translations in use (Power ISA 2.06, Book III-E, chapter 6).
-    pub fn pid(&self) -> u32
+    pub fn pid(&self) -> u16
         ensures value { result ≡ self.now.pid }
         ensures bound { result < 2 ^ 14 }
     {
@@ -522,7 +524,7 @@ impl Regs {
     pub fn set_pid(&mut self, value: u32)
         ensures { self.new ≡ record self.old { pid = bit_and value pid_bits } }
     {
-        self.pid = value & 0x3FFF;
+        self.pid = (value & 0x3FFF) as u16;
     }
 
     /// Where a return from critical interrupt goes (Power ISA 2.06, Book III-E, chapter 7).
@@ -747,6 +749,7 @@ impl Regs {
     }
 
     /// Writes the bits 0xFFFF_FEFD of the register.
+    #[tactic(auto, using(crate::proofs::Masks::mask_twice))]
     pub fn set_l1csr0(&mut self, value: u32)
         ensures { self.new ≡ record self.old { l1csr0 = bit_and value l1csr0_bits } }
     {
@@ -761,6 +764,7 @@ impl Regs {
     }
 
     /// Writes the bits 0xFFFF_FEFD of the register.
+    #[tactic(auto, using(crate::proofs::Masks::mask_twice))]
     pub fn set_l1csr1(&mut self, value: u32)
         ensures { self.new ≡ record self.old { l1csr1 = bit_and value l1csr1_bits } }
     {
@@ -775,6 +779,7 @@ impl Regs {
     }
 
     /// Writes the bits 0xFFFF_FDFF of the register.
+    #[tactic(auto, using(crate::proofs::Masks::mask_twice))]
     pub fn set_bucsr(&mut self, value: u32)
         ensures { self.new ≡ record self.old { bucsr = bit_and value bucsr_bits } }
     {

@@ -1,3 +1,5 @@
+//! The special registers by name.
+
 /// A special register.
 #[derive(Clone, Copy, Debug, PartialEq, Eq)]
 pub enum Special {

@@ -1,4 +1,7 @@
+//! The registers by name and by number.
+
 use super::*;
+use arrayvec::ArrayVec;
 use std::test::*;
 
 /// Numbers with what reads back after all ones were written by the system, on core 5.
@@ -174,4 +177,50 @@ fn a_core_starts_as_a_client_program_expects(rt: HostRuntime) {
     regs.set_reserved(Some(64));
     regs.set_idle(true);
     assert!(rt; regs.reserved() == Some(64) && regs.idle());
+}
+
+#[test]
+fn addresses_and_bits(rt: HostRuntime) {
+    let mut regs = boot(0x40, 0x8000, 3);
+    regs.set_gpr(0, 0x100);
+    regs.set_gpr(9, 0xFFFF_FFF8);
+    assert_eq!(rt;
+        (regs.gpr_or_zero(0), regs.gpr_or_zero(9)),
+        (0, 0xFFFF_FFF8)
+    );
+    assert_eq!(rt;
+        (regs.indexed_address(0, 0), regs.indexed_address(9, 0)),
+        (0x100, 0xF8)
+    );
+    assert!(rt; !regs.is_user() && !regs.instruction_space() && !regs.data_space());
+    regs.set_msr(msr::PROBLEM_STATE | msr::INSTRUCTION_ADDRESS_SPACE | msr::DATA_ADDRESS_SPACE);
+    assert!(rt; regs.is_user() && regs.instruction_space() && regs.data_space());
+    assert_eq!(rt; msr::STATE_BITS & msr::GUEST_STATE, 0);
+    assert!(rt; is_set(regs.msr(), msr::GUEST_STATE) && !is_set(regs.msr(), msr::EXTERNAL_ENABLE));
+    regs.set_msr(msr::CRITICAL_ENABLE | msr::EXTERNAL_ENABLE | msr::MACHINE_CHECK_ENABLE);
+    assert_eq!(rt; regs.msr(), 0x1002_9000);
+    regs.set_pid(0xFFFF_FFFF);
+    assert_eq!(rt; regs.pid(), 0x3FFF);
+    regs.are_kept();
+    changes_keep_the_registers();
+}
+
+#[test]
+fn syndromes_and_bytes(rt: HostRuntime) {
+    assert_eq!(rt;
+        (store_syndrome(true), store_syndrome(false)),
+        (0x0080_0000, 0)
+    );
+    assert_eq!(rt;
+        (order_syndrome(true), order_syndrome(false)),
+        (0x0002_0000, 0)
+    );
+    assert_eq!(rt; esr::ILLEGAL | esr::PRIVILEGED | esr::TRAP, 0x0E00_0000);
+    let mut bytes: ArrayVec<u8, 8> = ArrayVec::new();
+    push_word(&mut bytes, 0x0102_0304);
+    push_word(&mut bytes, 0xFFFE_FDFC);
+    assert_eq!(rt;
+        bytes.as_slice(),
+        [1, 2, 3, 4, 0xFF, 0xFE, 0xFD, 0xFC].as_slice()
+    );
 }

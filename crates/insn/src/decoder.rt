@@ -1,3 +1,6 @@
+//! Which instruction a word is. The extended opcodes are looked up one width after the other, since the rows of a width leave other
+//! bits open.
+
 ghost use Rattle.std.specs.Prelude.{◌≡◌, ℕ};
 ghost use Rattle.insn.specs.Table.{op_of, AtMostOneFits};
 ghost use Rattle.insn.specs.Keys.{op_by_fields, by_19, by_31, by_sums, by_high_products, by_products, by_selections, by_system_rows, by_indexed_rows};
@@ -20,12 +23,14 @@ pub fn at_most_one_row_fits()
     ensures { AtMostOneFits }
 {}
 
+/// What a word asks for.
 fn op_of_word(word: u32) -> Op
     ensures { result ≡ op_of word }
 {
     op_of_opcode(word >> 26, word)
 }
 
+/// The rows by the primary opcode, of six bits.
 #[tactic(auto, unfolding(crate::specs::Keys::op_by_fields, crate::specs::Keys::primary_keys))]
 fn op_of_opcode(opcode: u32, word: u32) -> Op
     ensures { result ≡ op_by_fields opcode word }
@@ -75,6 +80,7 @@ fn op_of_opcode(opcode: u32, word: u32) -> Op
     }
 }
 
+/// The rows of opcode 17: the system calls, by their level.
 #[tactic(auto, unfolding(crate::specs::Keys::op_by_fields, crate::specs::Keys::primary_keys))]
 fn system_call(word: u32) -> Op
     ensures { result ≡ op_by_fields 17 word }
@@ -88,6 +94,7 @@ fn system_call(word: u32) -> Op
     }
 }
 
+/// The rows of opcode 19, by the extended opcode, of ten bits.
 #[tactic(auto, unfolding(crate::specs::Keys::by_19, crate::specs::Keys::keys_19))]
 fn extended_19(word: u32) -> Op
     ensures { result ≡ by_19 word }
@@ -112,6 +119,7 @@ fn extended_19(word: u32) -> Op
     }
 }
 
+/// The rows of opcode 31: comparisons and the first others here, whose extended opcode has ten bits.
 #[tactic(auto, unfolding(crate::specs::Keys::by_31, crate::specs::Keys::comparisons))]
 fn extended_31(word: u32) -> Op
     ensures { result ≡ by_31 word }
@@ -147,6 +155,7 @@ fn sums(word: u32) -> Op
     }
 }
 
+/// The high products, whose extended opcode has ten bits.
 #[tactic(auto, unfolding(crate::specs::Keys::by_high_products, crate::specs::Keys::high_products))]
 fn high_products(word: u32) -> Op
     ensures { result ≡ by_high_products word }
@@ -182,6 +191,7 @@ fn selections(word: u32) -> Op
     }
 }
 
+/// Moves of system registers, instructions on translations and caches, and the loads and stores among them: ten bits.
 #[tactic(auto, unfolding(crate::specs::Keys::by_system_rows, crate::specs::Keys::system_rows))]
 fn system_rows(word: u32) -> Op
     ensures { result ≡ by_system_rows word }
@@ -222,6 +232,7 @@ fn system_rows(word: u32) -> Op
     }
 }
 
+/// The other rows: indexed loads and stores, shifts and logic. Their extended opcode has ten bits.
 #[tactic(auto, unfolding(crate::specs::Keys::by_indexed_rows, crate::specs::Keys::indexed_rows))]
 fn indexed_rows(word: u32) -> Op
     ensures { result ≡ by_indexed_rows word }

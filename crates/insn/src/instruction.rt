@@ -1,3 +1,5 @@
+//! Instructions: what a word asks for, beside the word.
+
 /// What an instruction word asks for, by the mnemonic of Power ISA 2.06. Each is a row of the table, but for
 /// `FloatingPoint`, which has one row per opcode, and `Illegal`, which has none.
 #[derive(Clone, Copy, Debug, PartialEq, Eq)]

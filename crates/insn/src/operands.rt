@@ -9,27 +9,27 @@ use crate::instruction::Insn;
 /// has depends on its format; each can be read of any word.
 impl Insn {
     /// RT, and RS in the same place: the general register that takes the result, or gives the value.
-    pub fn rt(self) -> usize
+    pub fn rt(self) -> u8
         ensures field { result ≡ rt_field self.word }
         ensures register { result < 32 }
     {
-        (self.word >> 21 & 31) as usize
+        (self.word >> 21 & 31) as u8
     }
 
     /// RA: a general register.
-    pub fn ra(self) -> usize
+    pub fn ra(self) -> u8
         ensures field { result ≡ ra_field self.word }
         ensures register { result < 32 }
     {
-        (self.word >> 16 & 31) as usize
+        (self.word >> 16 & 31) as u8
     }
 
     /// RB: a general register.
-    pub fn rb(self) -> usize
+    pub fn rb(self) -> u8
         ensures field { result ≡ rb_field self.word }
         ensures register { result < 32 }
     {
-        (self.word >> 11 & 31) as usize
+        (self.word >> 11 & 31) as u8
     }
 
     /// UI: the immediate without a sign.

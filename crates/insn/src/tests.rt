@@ -1,3 +1,5 @@
+//! Words as an assembler writes them.
+
 use super::*;
 use std::test::*;
 
