@@ -10,9 +10,9 @@ use Rattle.std.specs.List.Sorted.{IsStrictlyIncreasing}
 use Rattle.mas.specs.declared.entry.Entry.{Entry}
 use Rattle.guest_tlb.specs.Translation.{meets}
 use Rattle.guest_tlb.specs.Slots.{blank, entry_at, written_entry}
-use Rattle.guest_tlb.specs.Sweep.{ended, after, swept, ended_slots, is_exposed, ends_all, ends_pid, ends_address, gives_way, with_entry, after_write, ended_by_write}
-use Rattle.guest_tlb.specs.Laws.{AnswersRise, AnswersAreTaken, AnswersDeaths, Dies, InvalidationsAnswerDeaths, WritesAnswerDeaths}
-use Rattle.guest_tlb.proofs.Passes.{swept_at}
+use Rattle.guest_tlb.specs.Invalidation.{dead, after, invalidated, ended_slots, is_exposed, ends_all, ends_pid, ends_address, ends_write, with_entry, after_write, ended_by_write}
+use Rattle.guest_tlb.specs.Laws.{AnswersRise, AnswersAreEnded, AnswersDeaths, Dies, InvalidationsAnswerDeaths, WritesAnswerDeaths}
+use Rattle.guest_tlb.proofs.Passes.{invalidated_at}
 use Rattle.guest_tlb.proofs.Upkeep.{after_write_there, ended_there}
 
 range_rises : (n : ℕ) → IsStrictlyIncreasing (range_with_len 0 n)
@@ -45,9 +45,9 @@ in_range n slot (k, h, e) =
     let is = get_or-range_with_len 0 n k slot inside in
     omega (arith, e, is)
 
-pub answers_are_taken : AnswersAreTaken
+pub answers_are_ended : AnswersAreEnded
 unfolding ended_slots
-answers_are_taken ends slots slot =
+answers_are_ended ends slots slot =
     let p : ℕ → Bool = λ k. ends k (entry_at slots k) in
     let n : ℕ = length slots in (
       λ h. (
@@ -58,11 +58,11 @@ answers_are_taken ends slots slot =
     )
 
 -- a slot that passes a test that only the live pass died, and no other did
-died_of : (b : Bool) (entry : Entry) → b ≡ true → (cond b (ended entry) entry).valid ≡ false
+died_of : (b : Bool) (entry : Entry) → b ≡ true → (cond b (dead entry) entry).valid ≡ false
 died_of true entry h = refl
 died_of false entry h = absurd (false≢true h)
 
-passed_of : (b : Bool) (entry : Entry) → entry.valid ≡ true → (cond b (ended entry) entry).valid ≡ false → b ≡ true
+passed_of : (b : Bool) (entry : Entry) → entry.valid ≡ true → (cond b (dead entry) entry).valid ≡ false → b ≡ true
 passed_of true entry v d = refl
 passed_of false entry v d = absurd (false≢true (sym d ∙ v))
 
@@ -71,19 +71,19 @@ live_inside slots slot v =
     ⊎_elim (λ (h : slot < length slots). h) (λ (h : length slots ≤ slot). absurd (false≢true (sym (ap (λ (e : Entry). e.valid) (get_or_past slots slot blank h)) ∙ v))) (cases_lt slot (length slots))
 
 deaths : (ends : ℕ → Entry → Bool) (slots : List Entry) (slot : ℕ) → (ends slot (entry_at slots slot) ≡ true → (entry_at slots slot).valid ≡ true)
-    → Contains (ended_slots ends slots) slot ↔ Dies slots (swept ends slots) slot
+    → Contains (ended_slots ends slots) slot ↔ Dies slots (invalidated ends slots) slot
 deaths ends slots slot live =
-    let taken = answers_are_taken ends slots slot in (
+    let taken = answers_are_ended ends slots slot in (
       λ c.
           let t = taken.0 c in
-          (live t.1, ap (λ (e : Entry). e.valid) (swept_at ends slots slot blank t.0) ∙ died_of (ends slot (entry_at slots slot)) (entry_at slots slot) t.1),
+          (live t.1, ap (λ (e : Entry). e.valid) (invalidated_at ends slots slot blank t.0) ∙ died_of (ends slot (entry_at slots slot)) (entry_at slots slot) t.1),
       λ (v, d).
           let inside = live_inside slots slot v in
-          let now : (after ends slot (entry_at slots slot)).valid ≡ false = sym (ap (λ (e : Entry). e.valid) (swept_at ends slots slot blank inside)) ∙ d in
+          let now : (after ends slot (entry_at slots slot)).valid ≡ false = sym (ap (λ (e : Entry). e.valid) (invalidated_at ends slots slot blank inside)) ∙ d in
           taken.1 (inside, passed_of (ends slot (entry_at slots slot)) (entry_at slots slot) v now),
     )
 
--- an invalidation takes only what is live
+-- an invalidation ends only what is live
 exposed_live : (entry : Entry) (b : Bool) → (is_exposed entry && b) ≡ true → entry.valid ≡ true
 exposed_live entry b h = (and_parts entry.valid (not entry.iprot) (and_parts (is_exposed entry) b h).0).0
 
@@ -102,9 +102,9 @@ address_deaths ea pid tlb0 tlb1 slots slot = deaths (ends_address ea pid tlb0 tl
 pub invalidations_answer_deaths : InvalidationsAnswerDeaths
 invalidations_answer_deaths = (all_deaths, pid_deaths, address_deaths)
 
--- a write takes its own slot
-own : (at : ℕ) (new entry : Entry) → gives_way at new at entry ≡ true
-unfolding gives_way
+-- a write overwrites its own slot
+pub own : (at : ℕ) (new entry : Entry) → ends_write at new at entry ≡ true
+unfolding ends_write
 own at new entry = ap (λ b. b || (new.valid && (entry.valid && meets new entry))) (eq-eqb at at refl)
 
 other_live : (a b c m : Bool) → (a || (b && (c && m))) ≡ true → a ≡ false → c ≡ true
@@ -114,25 +114,25 @@ other_live false b c m h n = (and_parts c m (and_parts b (c && m) h).1).0
 not_own : (m n : ℕ) → m ≢ n → (m == n) ≡ false
 not_own m n h = ⊎_elim (λ (t : (m == n) ≡ true). absurd (h (eqb-true m n t))) (λ (f : (m == n) ≡ false). f) (cases_Bool (m == n))
 
-takes_live : (at slot : ℕ) (new entry : Entry) → slot ≢ at → gives_way at new slot entry ≡ true → entry.valid ≡ true
-unfolding gives_way
-takes_live at slot new entry ne h = other_live (slot == at) new.valid entry.valid (meets new entry) h (not_own slot at ne)
+ends_live : (at slot : ℕ) (new entry : Entry) → slot ≢ at → ends_write at new slot entry ≡ true → entry.valid ≡ true
+unfolding ends_write
+ends_live at slot new entry ne h = other_live (slot == at) new.valid entry.valid (meets new entry) h (not_own slot at ne)
 
-put_deaths : (at slot : ℕ) (new : Entry) (slots : List Entry) → slot ≢ at → Contains (ended_slots (gives_way at new) slots) slot ↔ Dies slots (with_entry at new slots) slot
+put_deaths : (at slot : ℕ) (new : Entry) (slots : List Entry) → slot ≢ at → Contains (ended_slots (ends_write at new) slots) slot ↔ Dies slots (with_entry at new slots) slot
 put_deaths at slot new slots ne =
-    let stays : (entry_at (with_entry at new slots) slot).valid ≡ (entry_at (swept (gives_way at new) slots) slot).valid = ap (λ (e : Entry). e.valid) (get_or-set_other (swept (gives_way at new) slots) at slot new blank ne) in
-    let both = deaths (gives_way at new) slots slot (takes_live at slot new (entry_at slots slot) ne) in
+    let stays : (entry_at (with_entry at new slots) slot).valid ≡ (entry_at (invalidated (ends_write at new) slots) slot).valid = ap (λ (e : Entry). e.valid) (get_or-set_other (invalidated (ends_write at new) slots) at slot new blank ne) in
+    let both = deaths (ends_write at new) slots slot (ends_live at slot new (entry_at slots slot) ne) in
     (λ c. let d = both.0 c in (d.0, stays ∙ d.1), λ (v, d). both.1 (v, sym stays ∙ d))
 
 pub writes_answer_deaths : WritesAnswerDeaths
 writes_answer_deaths mas slots at named inside =
     let new : Entry = written_entry at mas in
-    let answer : ended_slots (gives_way at new) slots ≡ ended_by_write mas slots = sym (ended_there mas slots at named) in
+    let answer : ended_slots (ends_write at new) slots ≡ ended_by_write mas slots = sym (ended_there mas slots at named) in
     let result : with_entry at new slots ≡ after_write mas slots = sym (after_write_there mas slots at named) in
     let Own : List ℕ → Type 0 = λ xs. Contains xs at in (
-      subst Own answer ((answers_are_taken (gives_way at new) slots at).1 (inside, own at new (entry_at slots at))),
+      subst Own answer ((answers_are_ended (ends_write at new) slots at).1 (inside, own at new (entry_at slots at))),
       λ slot ne.
           let Answers : List ℕ → Type 0 = λ xs. Contains xs slot ↔ Dies slots (after_write mas slots) slot in
-          let Becomes : List Entry → Type 0 = λ ys. Contains (ended_slots (gives_way at new) slots) slot ↔ Dies slots ys slot in
+          let Becomes : List Entry → Type 0 = λ ys. Contains (ended_slots (ends_write at new) slots) slot ↔ Dies slots ys slot in
           subst Answers answer (subst Becomes result (put_deaths at slot new slots ne)),
     )

@@ -1,15 +1,15 @@
 -- What a search and a lookup find is one translation.
 use Rattle.std.proofs.Common.{arith, refl, ap, sym, ◌∙◌, ◌≡◌, ℕ, zero, suc, ◌+◌, ◌/◌, ◌%◌, ◌^◌, ◌<◌, ◌≤◌, Bool, true, false, not, cond, ltb, List, [], ◌∷◌, length, get_or, Option, Some, None, IfSome, MatchOption, subst, ⊎_elim}
-use Rattle.std.proofs.lemmas.Bool.{cases_lt, lt-ltb}
+use Rattle.std.proofs.lemmas.Bool.{cases_lt, lt-ltb, false≢true}
 use Rattle.std.proofs.lemmas.Option.{none-some}
 use Rattle.std.proofs.lemmas.List.Quantifiers.{position-Some}
 use Rattle.std.specs.List.{position_or_len, find, position}
 use Rattle.mas.specs.declared.registers.Mas.{Mas}
 use Rattle.mas.specs.declared.entry.Entry.{Entry}
-use Rattle.mas.specs.Translation.{told}
+use Rattle.mas.specs.Translation.{reporting}
 use Rattle.guest_tlb.specs.Translation.{matches, IsMatch}
-use Rattle.guest_tlb.specs.Slots.{blank, entry_at, named_slot, naming, search_of, lookup_of}
-use Rattle.guest_tlb.specs.Kept.{AreKept}
+use Rattle.guest_tlb.specs.Slots.{blank, tlb0_blank, entry_at, named_slot, naming, search_of, lookup_of}
+use Rattle.guest_tlb.specs.Kept.{IsKept, AreKept}
 use Rattle.guest_tlb.specs.Laws.{FoundIsNamed}
 use Rattle.guest_tlb.proofs.Meeting.{match_is, match_parts}
 use Rattle.guest_tlb.proofs.Places.{places_name_slots}
@@ -66,18 +66,23 @@ matches_by space pid ea slots (Some k) kept h =
 pub lookup_matches : (space : Bool) (pid ea : ℕ) (slots : List Entry) → AreKept slots → IfSome (lookup_of space pid ea slots) (IsMatch space pid ea)
 lookup_matches space pid ea slots kept = matches_by space pid ea slots (search_of space pid ea slots) kept refl
 
--- what a search found is named by the registers that tell it
-told_set : (entry : Entry) (set : ℕ) → entry.epn % 2 ^ 12 ≡ 0 → entry.wimge < 2 ^ 5 → entry.epn / 2 ^ 12 % 128 ≡ set → (entry.epn + entry.wimge) / 2 ^ 12 % 128 ≡ set
-told_set entry set whole small h = omega (arith, whole, small, h)
+-- what a search found is named by the registers that report it
+reported_set : (entry : Entry) (set : ℕ) → entry.epn % 2 ^ 12 ≡ 0 → entry.wimge < 2 ^ 5 → entry.epn / 2 ^ 12 % 128 ≡ set → (entry.epn + entry.wimge) / 2 ^ 12 % 128 ≡ set
+reported_set entry set whole small h = omega (arith, whole, small, h)
 
-pub told_is_named : (slots : List Entry) (mas : Mas) (slot : ℕ) → AreKept slots → slot < 576 → (entry_at slots slot).valid ≡ true → named_slot (told (entry_at slots slot) (naming slot mas)) ≡ Some slot
-unfolding told
-told_is_named slots mas slot kept small live =
+-- a live translation of TLB0 is in the set of its page
+pub live_set : (slot : ℕ) (entry : Entry) → IsKept slot entry → slot < 512 → entry.valid ≡ true → entry.epn / 2 ^ 12 % 128 ≡ slot / 4
+live_set slot entry h low live =
+    ⊎_elim (λ (e : entry ≡ tlb0_blank). absurd (false≢true (sym (ap (λ (x : Entry). x.valid) e) ∙ live))) (λ (e : entry.epn / 2 ^ 12 % 128 ≡ slot / 4). e) (h.tlb0_set low)
+
+pub reported_is_named : (slots : List Entry) (mas : Mas) (slot : ℕ) → AreKept slots → slot < 576 → (entry_at slots slot).valid ≡ true → named_slot (reporting (entry_at slots slot) (naming slot mas)) ≡ Some slot
+unfolding reporting
+reported_is_named slots mas slot kept small live =
     let entry : Entry = entry_at slots slot in
     let holds = kept.each slot in
-    places_name_slots (told entry mas) slot small (λ low. told_set entry (slot / 4) holds.fits.epn_whole holds.fits.wimge_small (holds.tlb0_set low live))
+    places_name_slots (reporting entry mas) slot small (λ low. reported_set entry (slot / 4) holds.fits.epn_whole holds.fits.wimge_small (live_set slot entry holds low live))
 
 pub found_is_named : FoundIsNamed
 found_is_named slots mas space pid ea slot kept h =
     let at = position-Some (matches space pid ea) slots slot blank h in
-    told_is_named slots mas slot kept (omega (arith, at.0, kept.count)) (match_parts space pid ea (entry_at slots slot) at.1).0
+    reported_is_named slots mas slot kept (omega (arith, at.0, kept.count)) (match_parts space pid ea (entry_at slots slot) at.1).0

@@ -1,10 +1,11 @@
-pub mod Sizes
 pub mod Passes
 pub mod Places
 pub mod Found
 pub mod Meeting
 pub mod Apart
+pub mod Reset
 pub mod Upkeep
 pub mod Answered
+pub mod Others
 pub mod Back
 pub mod Windows

@@ -2,25 +2,15 @@
 use Rattle.std.proofs.Common.{arith, refl, ap, sym, ◌∙◌, ◌≡◌, ℕ, ◌+◌, ◌<◌, ◌≤◌, ◌==◌, Bool, true, false, ◌&&◌, ◌||◌, nat_lt, nat_le, ⊎_elim}
 use Rattle.std.proofs.lemmas.Bool.{and_parts, and_from, or_cases, cases_lt, lt-ltb, le-leb, ltb-true, leb-true, eqb-true}
 use Rattle.std.proofs.lemmas.Bool.Decides.{nat_tests}
+use Rattle.std.proofs.Math.Bool.{and_comm, or_comm}
 use Rattle.std.specs.Bool.{beq}
 use Rattle.mas.specs.declared.entry.Entry.{Entry}
-use Rattle.guest_tlb.specs.Translation.{page_size, has_address, is_for, overlap, share_pid, matches, meets, IsSound, IsMatch}
+use Rattle.mas.specs.Page.{page_size, is_in_page}
+use Rattle.guest_tlb.specs.Translation.{has_address, is_for, overlap, share_pid, matches, meets, IsSound, IsMatch}
 use Rattle.guest_tlb.specs.Laws.{MeetingSharesAnAccess}
-use Rattle.guest_tlb.proofs.Sizes.{size_is_positive}
+use Rattle.mas.proofs.Sizes.{size_is_positive}
 
 -- the order of two doesn't matter
-and_swap : (p q : Bool) → (p && q) ≡ (q && p)
-and_swap true true = refl
-and_swap true false = refl
-and_swap false true = refl
-and_swap false false = refl
-
-or_swap : (p q : Bool) → (p || q) ≡ (q || p)
-or_swap true true = refl
-or_swap true false = refl
-or_swap false true = refl
-or_swap false false = refl
-
 beq_swap : (x y : Bool) → beq x y ≡ beq y x
 beq_swap true true = refl
 beq_swap true false = refl
@@ -33,9 +23,9 @@ eqb_swap m n = grind (arith, nat_tests)
 pub meets_swap : (a b : Entry) → meets a b ≡ meets b a
 unfolding meets
 meets_swap a b =
-    let pages = and_swap (nat_lt a.epn (b.epn + page_size b)) (nat_lt b.epn (a.epn + page_size a)) in
+    let pages = and_comm (nat_lt a.epn (b.epn + page_size b.tsize)) (nat_lt b.epn (a.epn + page_size a.tsize)) in
     let pids : share_pid a b ≡ share_pid b a =
-    ap (λ t. t || (a.tid == 0 || b.tid == 0)) (eqb_swap a.tid b.tid) ∙ ap (λ t. b.tid == a.tid || t) (or_swap (a.tid == 0) (b.tid == 0)) in
+    ap (λ t. t || (a.tid == 0 || b.tid == 0)) (eqb_swap a.tid b.tid) ∙ ap (λ t. b.tid == a.tid || t) (or_comm (a.tid == 0) (b.tid == 0)) in
     ap (λ t. t && (beq a.ts b.ts && share_pid a b)) pages
     ∙ (ap (λ t. overlap b a && (t && share_pid a b)) (beq_swap a.ts b.ts) ∙ ap (λ t. overlap b a && (beq b.ts a.ts && t)) pids)
 
@@ -52,11 +42,11 @@ same_pid : (m n pid : ℕ) → (m == 0 || m == pid) ≡ true → (n == 0 || n ==
 same_pid m n pid h k = grind (arith, nat_tests)
 
 -- what a match says
-pub address_parts : (ea : ℕ) (entry : Entry) → has_address entry ea ≡ true → (entry.epn ≤ ea) × (ea < entry.epn + page_size entry)
-unfolding has_address
+pub address_parts : (ea : ℕ) (entry : Entry) → has_address entry ea ≡ true → (entry.epn ≤ ea) × (ea < entry.epn + page_size entry.tsize)
+unfolding is_in_page
 address_parts ea entry h =
-    let both = and_parts (nat_le entry.epn ea) (nat_lt ea (entry.epn + page_size entry)) h in
-    (leb-true entry.epn ea both.0, ltb-true ea (entry.epn + page_size entry) both.1)
+    let both = and_parts (nat_le entry.epn ea) (nat_lt ea (entry.epn + page_size entry.tsize)) h in
+    (leb-true entry.epn ea both.0, ltb-true ea (entry.epn + page_size entry.tsize) both.1)
 
 pub match_parts : (space : Bool) (pid ea : ℕ) (entry : Entry) → matches space pid ea entry ≡ true → (entry.valid ≡ true) × (beq entry.ts space ≡ true) × (is_for pid entry ≡ true) × (has_address entry ea ≡ true)
 unfolding matches
@@ -86,7 +76,7 @@ matches_meet space pid ea a b h k =
     let here = address_parts ea a one.3 in
     let there = address_parts ea b two.3 in
     and_from _ _
-    (and_from _ _ (lt-ltb a.epn (b.epn + page_size b) (omega (arith, here, there))) (lt-ltb b.epn (a.epn + page_size a) (omega (arith, here, there))))
+    (and_from _ _ (lt-ltb a.epn (b.epn + page_size b.tsize) (omega (arith, here, there))) (lt-ltb b.epn (a.epn + page_size a.tsize) (omega (arith, here, there))))
     (and_from _ _ (same_space a.ts b.ts space one.1 two.1) (same_pid a.tid b.tid pid one.2 two.2))
 
 -- and two live ones that meet would both translate some access
@@ -98,15 +88,15 @@ common_pid m n h =
     (λ (z : (n == 0) ≡ true). let is : n ≡ 0 = eqb-true n 0 z in (m, grind (arith, nat_tests), grind (arith, nat_tests))) (or_cases (m == 0) (n == 0) e))
     (or_cases (m == n) (m == 0 || n == 0) h)
 
-in_page : (entry : Entry) (ea : ℕ) → entry.epn ≤ ea → ea < entry.epn + page_size entry → has_address entry ea ≡ true
-unfolding has_address
-in_page entry ea h k = and_from _ _ (le-leb entry.epn ea h) (lt-ltb ea (entry.epn + page_size entry) k)
+in_page : (entry : Entry) (ea : ℕ) → entry.epn ≤ ea → ea < entry.epn + page_size entry.tsize → has_address entry ea ≡ true
+unfolding is_in_page
+in_page entry ea h k = and_from _ _ (le-leb entry.epn ea h) (lt-ltb ea (entry.epn + page_size entry.tsize) k)
 
 common_address : (a b : Entry) → overlap a b ≡ true → (ea : ℕ) × (has_address a ea ≡ true) × (has_address b ea ≡ true)
 common_address a b h =
-    let both = and_parts (nat_lt a.epn (b.epn + page_size b)) (nat_lt b.epn (a.epn + page_size a)) h in
-    let here : a.epn < b.epn + page_size b = ltb-true a.epn (b.epn + page_size b) both.0 in
-    let there : b.epn < a.epn + page_size a = ltb-true b.epn (a.epn + page_size a) both.1 in
+    let both = and_parts (nat_lt a.epn (b.epn + page_size b.tsize)) (nat_lt b.epn (a.epn + page_size a.tsize)) h in
+    let here : a.epn < b.epn + page_size b.tsize = ltb-true a.epn (b.epn + page_size b.tsize) both.0 in
+    let there : b.epn < a.epn + page_size a.tsize = ltb-true b.epn (a.epn + page_size a.tsize) both.1 in
     ⊎_elim (λ (l : a.epn < b.epn). (b.epn, in_page a b.epn (omega arith) there, in_page b b.epn (omega arith) (omega (arith, size_is_positive b.tsize))))
     (λ (l : b.epn ≤ a.epn). (a.epn, in_page a a.epn (omega arith) (omega (arith, size_is_positive a.tsize)), in_page b a.epn l here)) (cases_lt a.epn b.epn)
 

@@ -1,17 +1,19 @@
 -- A search of the set of a page and of TLB1 is a search of all slots.
 use Rattle.std.proofs.Common.{arith, refl, ap, sym, ◌∙◌, ◌≡◌, ℕ, ◌+◌, ◌-◌, ◌*◌, ◌/◌, ◌%◌, ◌^◌, ◌<◌, ◌≤◌, Bool, true, false, List, length, take, drop, get_or, ⊎_elim, Option, Some, None}
 use Rattle.std.proofs.lemmas.Bool.{cases_lt, true≢false}
-use Rattle.std.proofs.lemmas.List.{length-take-le, length-drop, get_or-take, get_or-drop}
+use Rattle.std.proofs.lemmas.List.{length-take-le, length-drop, get_or-take, get_or-drop, get_or_past}
 use Rattle.std.proofs.lemmas.List.Quantifiers.{position-Some}
 use Rattle.std.proofs.lemmas.List.Sums.{fails_before_first}
 use Rattle.std.specs.List.{position, position_or_len}
 use Rattle.mas.specs.declared.entry.Entry.{Entry}
-use Rattle.guest_tlb.specs.Translation.{matches, page_size, IsMatch}
+use Rattle.mas.specs.Page.{page_size}
+use Rattle.guest_tlb.specs.Translation.{matches, IsMatch}
 use Rattle.guest_tlb.specs.Slots.{blank, entry_at, search_of}
-use Rattle.guest_tlb.specs.Kept.{AreKept}
+use Rattle.guest_tlb.specs.Kept.{AreApart, AreKept}
+use Rattle.guest_tlb.specs.Laws.{MatchesAreFound}
 use Rattle.guest_tlb.proofs.Meeting.{match_parts, match_is}
 use Rattle.guest_tlb.proofs.Apart.{one_matches}
-use Rattle.guest_tlb.proofs.Found.{some_below}
+use Rattle.guest_tlb.proofs.Found.{some_below, live_set}
 
 -- where a search finds nothing, nothing passes
 nothing_passes : {X : Type 0} (p : X → Bool) (xs : List X) (k : ℕ) (d : X) → position p xs ≡ None → k < length xs → p (get_or xs k d) ≡ false
@@ -30,11 +32,24 @@ unfolding window
 window_at from count k slots h = get_or-take count (drop from slots) k blank h ∙ get_or-drop from slots k blank
 
 -- the one that passes is the one that is found
-unique_at : (space : Bool) (pid ea k : ℕ) (slots : List Entry) (r : Option ℕ) → AreKept slots → k < length slots → matches space pid ea (entry_at slots k) ≡ true → search_of space pid ea slots ≡ r → r ≡ Some k
-unique_at space pid ea k slots None kept inside passes h = absurd (true≢false (sym passes ∙ nothing_passes (matches space pid ea) slots k blank h inside))
-unique_at space pid ea k slots (Some j) kept inside passes h =
+blank_fails : (space : Bool) (pid ea : ℕ) → matches space pid ea blank ≡ false
+unfolding matches
+blank_fails space pid ea = refl
+
+inside_of_match : (slots : List Entry) (space : Bool) (pid ea k : ℕ) → matches space pid ea (entry_at slots k) ≡ true → k < length slots
+inside_of_match slots space pid ea k passes =
+    ⊎_elim (λ (h : k < length slots). h)
+    (λ (past : length slots ≤ k). absurd (true≢false (sym passes ∙ (ap (matches space pid ea) (get_or_past slots k blank past) ∙ blank_fails space pid ea)))) (cases_lt k (length slots))
+
+found_by : (slots : List Entry) (space : Bool) (pid ea k : ℕ) (r : Option ℕ) → AreApart slots → matches space pid ea (entry_at slots k) ≡ true → search_of space pid ea slots ≡ r → r ≡ Some k
+found_by slots space pid ea k None apart passes h =
+    absurd (true≢false (sym passes ∙ nothing_passes (matches space pid ea) slots k blank h (inside_of_match slots space pid ea k passes)))
+found_by slots space pid ea k (Some j) apart passes h =
     let at = position-Some (matches space pid ea) slots j blank h in
-    ap Some (one_matches slots space pid ea j k kept.apart at.1 passes)
+    ap Some (one_matches slots space pid ea j k apart at.1 passes)
+
+pub matches_are_found : MatchesAreFound
+matches_are_found slots space pid ea slot apart passes = found_by slots space pid ea slot (search_of space pid ea slots) apart passes refl
 
 pub found_within : (space : Bool) (pid ea from count k : ℕ) (slots : List Entry) → AreKept slots → from + count ≤ 576 → search_of space pid ea (take count (drop from slots)) ≡ Some k → search_of space pid ea slots ≡ Some (from + k)
 unfolding window
@@ -43,7 +58,7 @@ found_within space pid ea from count k slots kept fits h =
     let size = window_size from count slots (omega (arith, fits, kept.count)) in
     let inside : k < count = omega (arith, at.0, size) in
     let passes : matches space pid ea (entry_at slots (from + k)) ≡ true = sym (ap (matches space pid ea) (window_at from count k slots inside)) ∙ at.1 in
-    unique_at space pid ea (from + k) slots (search_of space pid ea slots) kept (omega (arith, inside, fits, kept.count)) passes refl
+    matches_are_found slots space pid ea (from + k) kept.apart passes
 
 none_within : (space : Bool) (pid ea from count j : ℕ) (slots : List Entry) → AreKept slots → from + count ≤ 576 → search_of space pid ea (take count (drop from slots)) ≡ None → from ≤ j → j < from + count → matches space pid ea (entry_at slots j) ≡ false
 unfolding window
@@ -66,7 +81,7 @@ in_its_set space pid ea j set slots kept low passes from =
     let holds = kept.each j in
     let live = (match_parts space pid ea entry passes).0 in
     let match : IsMatch space pid ea entry = match_is space pid ea entry passes (holds.sound live) in
-    same_set entry.epn ea (page_size entry) j set holds.fits.epn_whole match.begins match.ends (ap (λ t. 4 ^ t * 2 ^ 10) (holds.tlb0_size low live)) (holds.tlb0_set low live) from
+    same_set entry.epn ea (page_size entry.tsize) j set holds.fits.epn_whole match.begins match.ends (ap page_size (holds.tlb0_size low)) (live_set j entry holds low live) from
 
 nowhere : (space : Bool) (pid ea set : ℕ) (slots : List Entry) (r : Option ℕ) → AreKept slots → set ≤ 508 → set ≡ ea / 2 ^ 12 % 128 * 4 → search_of space pid ea (take 4 (drop set slots)) ≡ None → search_of space pid ea (take 64 (drop 512 slots)) ≡ None → search_of space pid ea slots ≡ r → r ≡ None
 nowhere space pid ea set slots None kept bound from small large h = refl

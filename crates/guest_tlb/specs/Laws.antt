@@ -3,18 +3,18 @@ use Rattle.std.specs.Prelude.{◌≡◌, ◌≢◌, ◌↔◌, ℕ, ◌/◌, ◌
 use Rattle.std.specs.List.Sorted.{IsStrictlyIncreasing}
 use Rattle.mas.specs.declared.registers.Mas.{Mas}
 use Rattle.mas.specs.declared.entry.Entry.{Entry}
-use Rattle.mas.specs.Translation.{told}
+use Rattle.mas.specs.Translation.{reporting}
 use Rattle.guest_tlb.specs.Translation.{matches, meets}
 use Rattle.guest_tlb.specs.Slots.{entry_at, named_slot, naming, initial_slots, search_of, lookup_of}
-use Rattle.guest_tlb.specs.Sweep.{swept, ended_slots, ends_all, ends_pid, ends_address, after_write, ended_by_write}
+use Rattle.guest_tlb.specs.Invalidation.{invalidated, ended_slots, ends_all, ends_pid, ends_address, after_write, ended_by_write}
 use Rattle.guest_tlb.specs.Kept.{AreApart, AreKept}
 
--- Live translations that don't meet still don't after a write, and after any test's ended; after a reset none meet.
+-- Live translations that don't meet still don't after a write, and after an invalidation by any test; after a reset none meet.
 abbrev pub WritesKeepApart : Type 0
 WritesKeepApart = (mas : Mas) (slots : List Entry) → AreApart slots → AreApart (after_write mas slots)
 
-abbrev pub SweepsKeepApart : Type 0
-SweepsKeepApart = (ends : ℕ → Entry → Bool) (slots : List Entry) → AreApart slots → AreApart (swept ends slots)
+abbrev pub InvalidationsKeepApart : Type 0
+InvalidationsKeepApart = (ends : ℕ → Entry → Bool) (slots : List Entry) → AreApart slots → AreApart (invalidated ends slots)
 
 abbrev pub ResetIsApart : Type 0
 ResetIsApart = AreApart initial_slots
@@ -23,8 +23,8 @@ ResetIsApart = AreApart initial_slots
 abbrev pub WritesKeepAll : Type 0
 WritesKeepAll = (mas : Mas) (slots : List Entry) → AreKept slots → AreKept (after_write mas slots)
 
-abbrev pub SweepsKeepAll : Type 0
-SweepsKeepAll = (ends : ℕ → Entry → Bool) (slots : List Entry) → AreKept slots → AreKept (swept ends slots)
+abbrev pub InvalidationsKeepAll : Type 0
+InvalidationsKeepAll = (ends : ℕ → Entry → Bool) (slots : List Entry) → AreKept slots → AreKept (invalidated ends slots)
 
 abbrev pub ResetIsKept : Type 0
 ResetIsKept = AreKept initial_slots
@@ -52,24 +52,29 @@ abbrev pub PlacesNameSlots : Type 0
 PlacesNameSlots =
     (mas : Mas) (slot : ℕ) → slot < 576 → (slot < 512 → mas.m2 / 2 ^ 12 % 128 ≡ slot / 4) → named_slot (naming slot mas) ≡ Some slot
 
--- What a search found is named by the registers that tell it, so that a write of them goes where it was.
+-- What a search found is named by the registers that report it, so that a write of them goes where it was.
 abbrev pub FoundIsNamed : Type 0
 FoundIsNamed =
     (slots : List Entry) (mas : Mas) (space : Bool) (pid ea slot : ℕ) → AreKept slots → search_of space pid ea slots ≡ Some slot →
-    named_slot (told (entry_at slots slot) (naming slot mas)) ≡ Some slot
+    named_slot (reporting (entry_at slots slot) (naming slot mas)) ≡ Some slot
 
--- A live translation that is written back by the registers that tell it leaves all slots as they are.
+-- A live translation that is written back by the registers that report it leaves all slots as they are.
 abbrev pub WritesBackKeep : Type 0
 WritesBackKeep =
     (slots : List Entry) (mas : Mas) (slot : ℕ) → AreKept slots → slot < 576 → IsTrue (entry_at slots slot).valid →
-    after_write (told (entry_at slots slot) (naming slot mas)) slots ≡ slots
+    after_write (reporting (entry_at slots slot) (naming slot mas)) slots ≡ slots
+
+-- A slot that translates an access is the one that a search finds.
+abbrev pub MatchesAreFound : Type 0
+MatchesAreFound =
+    (slots : List Entry) (space : Bool) (pid ea slot : ℕ) → AreApart slots → IsTrue (matches space pid ea (entry_at slots slot)) → search_of space pid ea slots ≡ Some slot
 
 -- Answers rise, and have exactly the slots that pass the test.
 abbrev pub AnswersRise : Type 0
 AnswersRise = (ends : ℕ → Entry → Bool) (slots : List Entry) → IsStrictlyIncreasing (ended_slots ends slots)
 
-abbrev pub AnswersAreTaken : Type 0
-AnswersAreTaken =
+abbrev pub AnswersAreEnded : Type 0
+AnswersAreEnded =
     (ends : ℕ → Entry → Bool) (slots : List Entry) (slot : ℕ) →
     Contains (ended_slots ends slots) slot ↔ ((slot < length slots) × IsTrue (ends slot (entry_at slots slot)))
 
@@ -79,7 +84,7 @@ Dies old new slot = IsTrue (entry_at old slot).valid × IsFalse (entry_at new sl
 
 -- An invalidation answers exactly the slots that died.
 abbrev pub AnswersDeaths : (ℕ → Entry → Bool) → Type 0
-AnswersDeaths ends = (slots : List Entry) (slot : ℕ) → Contains (ended_slots ends slots) slot ↔ Dies slots (swept ends slots) slot
+AnswersDeaths ends = (slots : List Entry) (slot : ℕ) → Contains (ended_slots ends slots) slot ↔ Dies slots (invalidated ends slots) slot
 
 abbrev pub InvalidationsAnswerDeaths : Type 0
 InvalidationsAnswerDeaths =
@@ -93,3 +98,14 @@ WritesAnswerDeaths =
     (mas : Mas) (slots : List Entry) (at : ℕ) → named_slot mas ≡ Some at → at < length slots →
     Contains (ended_by_write mas slots) at
     × ((slot : ℕ) → slot ≢ at → Contains (ended_by_write mas slots) slot ↔ Dies slots (after_write mas slots) slot)
+
+-- each slot that isn't answered has what it had
+pub record OthersStay (old new : List Entry) (answer : List ℕ) : Type 0 where
+  pub stay : (slot : ℕ) → ¬ (Contains answer slot) → entry_at new slot ≡ entry_at old slot
+
+-- An invalidation by any test and a write leave the slots that they don't answer.
+abbrev pub InvalidationsLeaveOthers : Type 0
+InvalidationsLeaveOthers = (ends : ℕ → Entry → Bool) (slots : List Entry) → OthersStay slots (invalidated ends slots) (ended_slots ends slots)
+
+abbrev pub WritesLeaveOthers : Type 0
+WritesLeaveOthers = (mas : Mas) (slots : List Entry) → OthersStay slots (after_write mas slots) (ended_by_write mas slots)

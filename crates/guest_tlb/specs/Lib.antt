@@ -1,6 +1,6 @@
 pub mod Translation
 pub mod Slots
-pub mod Sweep
+pub mod Invalidation
 pub mod Ending
 pub mod Kept
 pub mod Laws

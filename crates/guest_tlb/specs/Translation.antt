@@ -1,17 +1,14 @@
 -- Translations as ranges of addresses: what one translates, and when two would translate one access (Power ISA 2.06,
 -- Book III-E, chapter 6, address translation).
-use Rattle.std.specs.Prelude.{◌≡◌, ℕ, ◌+◌, ◌*◌, ◌%◌, ◌^◌, ◌<◌, ◌≤◌, ◌==◌, Bool, ◌&&◌, ◌||◌, nat_lt, nat_le, IsTrue}
+use Rattle.std.specs.Prelude.{◌≡◌, ℕ, ◌+◌, ◌%◌, ◌^◌, ◌<◌, ◌≤◌, ◌==◌, Bool, ◌&&◌, ◌||◌, nat_lt, IsTrue}
 use Rattle.std.specs.Bool.{beq}
 use Rattle.mas.specs.declared.entry.Entry.{Entry}
+use Rattle.mas.specs.Page.{page_size, is_in_page}
 use Rattle.mas.specs.Translation.{Fits}
 
--- the size of its page in bytes: 4 ^ TSIZE KiB
-abbrev pub page_size : Entry → ℕ
-page_size entry = 4 ^ entry.tsize * 2 ^ 10
-
 -- whether an effective address lies in its page
-unfoldable pub has_address : Entry → ℕ → Bool
-has_address entry ea = nat_le entry.epn ea && nat_lt ea (entry.epn + page_size entry)
+abbrev pub has_address : Entry → ℕ → Bool
+has_address entry ea = is_in_page entry.epn entry.tsize ea
 
 -- whether it is everyone's, or this PID's
 abbrev pub is_for : ℕ → Entry → Bool
@@ -23,7 +20,7 @@ matches space pid ea entry = entry.valid && (beq entry.ts space && (is_for pid e
 
 -- whether an address lies in both pages
 abbrev pub overlap : Entry → Entry → Bool
-overlap a b = nat_lt a.epn (b.epn + page_size b) && nat_lt b.epn (a.epn + page_size a)
+overlap a b = nat_lt a.epn (b.epn + page_size b.tsize) && nat_lt b.epn (a.epn + page_size a.tsize)
 
 -- whether both are for one PID: their TIDs are equal, or one is 0
 abbrev pub share_pid : Entry → Entry → Bool
@@ -39,10 +36,10 @@ pub record IsSound (entry : Entry) : Type 0 where
   pub fits : Fits entry
   pub least : 1 ≤ entry.tsize
   pub most : entry.tsize ≤ 11
-  pub page_whole : entry.epn % page_size entry ≡ 0
-  pub page_ends : entry.epn + page_size entry ≤ 2 ^ 32
-  pub frame_whole : entry.rpn % page_size entry ≡ 0
-  pub frame_ends : entry.rpn + page_size entry ≤ 2 ^ 36
+  pub page_whole : entry.epn % page_size entry.tsize ≡ 0
+  pub page_ends : entry.epn + page_size entry.tsize ≤ 2 ^ 32
+  pub frame_whole : entry.rpn % page_size entry.tsize ≡ 0
+  pub frame_ends : entry.rpn + page_size entry.tsize ≤ 2 ^ 36
 
 -- a translation that is live and sound, and that translates an access
 pub record IsMatch (space : Bool) (pid ea : ℕ) (entry : Entry) : Type 0 where
@@ -50,5 +47,5 @@ pub record IsMatch (space : Bool) (pid ea : ℕ) (entry : Entry) : Type 0 where
   pub space_same : entry.ts ≡ space
   pub pid_fits : IsTrue (is_for pid entry)
   pub begins : entry.epn ≤ ea
-  pub ends : ea < entry.epn + page_size entry
+  pub ends : ea < entry.epn + page_size entry.tsize
   pub sound : IsSound entry

@@ -1,11 +1,10 @@
-//! Which slot the registers name, and what a write leaves in it.
+//! Which slot the registers name, and what a reset and a write leave in it.
 
 ghost use Rattle.std.specs.Prelude.{◌≡◌, ◌*◌, ◌/◌, ◌%◌, ◌^◌, ◌<◌, ◌≤◌, Some, IfSome};
-ghost use Rattle.guest_tlb.specs.Slots.{is_in_tlb0, named_slot, naming, tlb0_form, has_size, tlb1_form, written_entry, initial_area};
+ghost use Rattle.guest_tlb.specs.Slots.{is_in_tlb0, named_slot, naming, tlb0_form, has_size, tlb1_form, written_entry, initial_area, initial_entry};
 ghost use Rattle.guest_tlb.specs.Kept.{IsKept};
 
-use crate::page::size_of;
-use mas::{Entry, Mas, entry_select, from_mas, tlb_select, with_place};
+use mas::{Entry, Mas, from_mas, page_size};
 
 /// The slots of both TLBs.
 pub const SLOTS: usize = 576;
@@ -17,15 +16,15 @@ const SETS: u32 = 128;
 pub const WAYS: u16 = 4;
 
 /// The slots of TLB1.
-const LARGE_SLOTS: u16 = 64;
+const TLB1_SLOTS: u16 = 64;
 
 /// TLB1's largest page is of 4 to this power KiB, 4 GiB.
 const LARGEST: u8 = 11;
 
 /// The first slot of TLB1.
-pub const FIRST_OF_TLB1: usize = 512;
+pub const FIRST_OF_TLB1: u16 = 512;
 
-/// A slot of nothing.
+/// A slot of TLB1 that was never written.
 pub const BLANK: Entry = Entry {
     valid: false,
     iprot: false,
@@ -38,8 +37,11 @@ pub const BLANK: Entry = Entry {
     perms: 0,
 };
 
-/// What the registers of the initial area say.
-const INITIAL: Mas = Mas {
+/// A slot of TLB0 that was never written.
+const TLB0_BLANK: Entry = Entry { tsize: 1, ..BLANK };
+
+/// The registers that hold the initial area.
+const INITIAL_AREA: Mas = Mas {
     m0: 0,
     m1: 0xC000_0800,
     m2: 0x4,
@@ -50,10 +52,10 @@ const INITIAL: Mas = Mas {
 };
 
 /// Whether a slot is of TLB0.
-pub fn is_of_tlb0(slot: u16) -> bool
+pub fn is_in_tlb0(slot: u16) -> bool
     ensures { result ≡ is_in_tlb0 slot }
 {
-    (slot as usize) < FIRST_OF_TLB1
+    slot < FIRST_OF_TLB1
 }
 
 /// The first slot of the set of TLB0 that takes the page of an effective address.
@@ -71,9 +73,9 @@ pub fn slot_of(mas: &Mas) -> Option<u16>
     ensures slot { result ≡ named_slot mas.now }
     ensures bound { IfSome result (λ slot. slot < 576) }
 {
-    match tlb_select(mas) {
-        0 => Some(set_of(mas.m2) as u16 + entry_select(mas) % WAYS),
-        1 => Some(FIRST_OF_TLB1 as u16 + entry_select(mas) % LARGE_SLOTS),
+    match mas.tlbsel() {
+        0 => Some(set_of(mas.m2) as u16 + mas.esel() % WAYS),
+        1 => Some(FIRST_OF_TLB1 + mas.esel() % TLB1_SLOTS),
         _ => None,
     }
 }
@@ -83,15 +85,15 @@ pub fn name_slot(slot: u16, mas: &Mas) -> Mas
     requires { slot < 576 }
     ensures { result ≡ naming slot mas.now }
 {
-    if is_of_tlb0(slot) {
-        with_place(mas, 0, slot % WAYS)
+    if is_in_tlb0(slot) {
+        mas.with_tlbsel_esel(0, slot % WAYS)
     } else {
-        with_place(mas, 1, slot - FIRST_OF_TLB1 as u16)
+        mas.with_tlbsel_esel(1, slot - FIRST_OF_TLB1)
     }
 }
 
 /// A translation as TLB0 takes it.
-fn for_tlb0(entry: Entry) -> Entry
+fn tlb0_form(entry: Entry) -> Entry
     ensures { result ≡ tlb0_form entry }
 {
     Entry {
@@ -102,23 +104,23 @@ fn for_tlb0(entry: Entry) -> Entry
 }
 
 /// Whether TLB1 has pages of a translation's size.
-fn is_of_a_size(entry: &Entry) -> bool
+fn has_size(entry: &Entry) -> bool
     ensures { result ≡ has_size entry.now }
 {
     (1..=LARGEST).contains(&entry.tsize)
 }
 
 /// A translation as TLB1 takes it.
-fn for_tlb1(entry: Entry) -> Entry
+fn tlb1_form(entry: Entry) -> Entry
     ensures { result ≡ tlb1_form entry }
 {
-    if !is_of_a_size(&entry) {
+    if !has_size(&entry) {
         return Entry {
             valid: false,
             ..entry
         };
     }
-    let size = size_of(entry.tsize);
+    let size = page_size(entry.tsize);
     Entry {
         epn: entry.epn - (entry.epn as u64 % size) as u32,
         rpn: entry.rpn - entry.rpn % size,
@@ -128,22 +130,35 @@ fn for_tlb1(entry: Entry) -> Entry
 
 /// What a write of these registers leaves in the slot that they name.
 #[tactic(auto, using(crate::proofs::Upkeep::written_kept_as), unfolding(crate::specs::Slots::written_entry))]
-pub fn written(slot: u16, mas: &Mas) -> Entry
+pub fn written_entry(slot: u16, mas: &Mas) -> Entry
     requires { named_slot mas.now ≡ Some slot }
     ensures entry { result ≡ written_entry slot mas.now }
     ensures kept { IsKept slot result }
 {
-    if is_of_tlb0(slot) {
-        for_tlb0(from_mas(mas))
+    if is_in_tlb0(slot) {
+        tlb0_form(from_mas(mas))
     } else {
-        for_tlb1(from_mas(mas))
+        tlb1_form(from_mas(mas))
     }
 }
 
 /// The area that is mapped when a program starts.
 #[tactic(auto, unfolding(crate::specs::Slots::initial_area))]
-pub fn initial() -> Entry
+fn initial_area() -> Entry
     ensures { result ≡ initial_area }
 {
-    from_mas(&INITIAL)
+    from_mas(&INITIAL_AREA)
+}
+
+/// What a slot has after a reset: the first of TLB1 the initial area, and every other nothing.
+pub fn initial_entry(slot: u16) -> Entry
+    ensures { result ≡ initial_entry slot }
+{
+    if is_in_tlb0(slot) {
+        TLB0_BLANK
+    } else if slot == FIRST_OF_TLB1 {
+        initial_area()
+    } else {
+        BLANK
+    }
 }

@@ -19,6 +19,19 @@ const NONE: Mas = Mas {
     m7: 0,
 };
 
+/// A dead translation of zeros.
+const ZERO: Entry = Entry {
+    valid: false,
+    iprot: false,
+    tid: 0,
+    ts: false,
+    tsize: 0,
+    epn: 0,
+    wimge: 0,
+    rpn: 0,
+    perms: 0,
+};
+
 /// TLBSEL 1.
 const SECOND: u32 = 0x1000_0000;
 
@@ -28,14 +41,14 @@ const VALID: u32 = 0x8000_0000;
 /// IPROT of MAS1.
 const PROTECTED: u32 = 0x4000_0000;
 
-// The slots without the initial area.
+/// The slots without the initial area.
 fn empty(alloc: Global) -> Result<GuestTlb, NoMemory> {
     let mut tlb = GuestTlb::new(alloc)?;
     tlb.write(&Mas { m0: SECOND, ..NONE });
     Ok(tlb)
 }
 
-// A live translation of `tid` in a slot of TLB1.
+/// A live translation of `tid` in a slot of TLB1.
 fn large(slot: u32, tid: u32, tsize: u32, epn: u32) -> Mas
     requires slot { slot < 64 }
     requires tid { tid < 8 }
@@ -48,7 +61,7 @@ fn large(slot: u32, tid: u32, tsize: u32, epn: u32) -> Mas
     }
 }
 
-// A live translation of `tid` in a way of TLB0.
+/// A live translation of `tid` in a way of TLB0.
 fn small(way: u32, tid: u32, epn: u32) -> Mas
     requires way { way < 4 }
     requires tid { tid < 8 }
@@ -61,6 +74,7 @@ fn small(way: u32, tid: u32, epn: u32) -> Mas
     }
 }
 
+/// Stops where a change answers other slots.
 fn answers(rt: &impl Abort, dead: &Dead, want: &[u16]) {
     assert_eq!(rt; dead.as_slice(), want);
 }
@@ -327,6 +341,7 @@ fn a_reset_leaves_the_initial_area(rt: HostRuntime) -> Result<(), Fail> {
     };
     assert_eq!(rt; tlb.lookup(false, 3, 0x1234_5678), None);
     assert_eq!(rt; tlb.lookup(false, 3, 0x0234_5678), Some(area));
-    assert_eq!(rt; tlb.read(509).tsize, 0);
+    assert_eq!(rt; tlb.read(509), Entry { tsize: 1, ..ZERO });
+    assert_eq!(rt; tlb.read(513), ZERO);
     Ok(())
 }

@@ -3,19 +3,19 @@ use Rattle.std.specs.Prelude.{◌≡◌, ℕ, ◌+◌, ◌-◌, ◌%◌, ◌^◌
 use Rattle.mas.specs.declared.registers.Mas.{Mas}
 use Rattle.mas.specs.declared.entry.Entry.{Entry}
 use Rattle.mas.specs.Fields.{tlbsel_field, esel_field, nv_field, tlbsel_default, tsize_default, wimge_default, spid_field, sas_bit}
-use Rattle.mas.specs.Translation.{Fits, entry_of, told, missed}
+use Rattle.mas.specs.Translation.{Fits, entry_of, reporting, missed}
 
--- What registers say fits them.
-abbrev pub SaidFits : Type 0
-SaidFits = (mas : Mas) → Fits (entry_of mas)
+-- What registers hold fits them.
+abbrev pub HeldFits : Type 0
+HeldFits = (mas : Mas) → Fits (entry_of mas)
 
--- A translation that fits is said by the registers that tell it.
-abbrev pub ToldIsSaid : Type 0
-ToldIsSaid = (entry : Entry) (mas : Mas) → Fits entry → entry_of (told entry mas) ≡ entry
+-- The registers that report a translation that fits hold it.
+abbrev pub ReportedIsHeld : Type 0
+ReportedIsHeld = (entry : Entry) (mas : Mas) → Fits entry → entry_of (reporting entry mas) ≡ entry
 
--- A miss says a valid translation of the page that missed, with the defaults, that leads nowhere yet.
-abbrev pub MissSaysPage : Type 0
-MissSaysPage =
+-- A miss reports a valid translation of the page that missed, with the defaults, that leads nowhere yet.
+abbrev pub MissReportsPage : Type 0
+MissReportsPage =
     (mas : Mas) (pid : ℕ) (space : Bool) (ea nv : ℕ) → pid < 2 ^ 14 → ea < 2 ^ 32 →
     entry_of (missed mas pid space ea nv) ≡ record {
       valid = true;
@@ -40,7 +40,7 @@ MissNamesVictim =
     × (nv_field m0 ≡ (if first then (nv + 1) % 4 else 0))
 
 -- A search after a miss looks for what missed.
-abbrev pub MissSaysSearch : Type 0
-MissSaysSearch =
+abbrev pub MissSetsSearch : Type 0
+MissSetsSearch =
     (mas : Mas) (pid : ℕ) (space : Bool) (ea nv : ℕ) → pid < 2 ^ 14 →
     (spid_field (missed mas pid space ea nv).m6 ≡ pid) × (sas_bit (missed mas pid space ea nv).m6 ≡ space)

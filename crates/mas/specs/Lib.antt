@@ -1,3 +1,4 @@
 pub mod Fields
+pub mod Page
 pub mod Translation
 pub mod Laws

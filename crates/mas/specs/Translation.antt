@@ -1,4 +1,4 @@
--- A translation, and the MAS registers that say it (Power ISA 2.06, Book III-E, chapter 6).
+-- A translation, and the MAS registers that hold it (Power ISA 2.06, Book III-E, chapter 6).
 use Rattle.std.specs.Prelude.{◌≡◌, ℕ, ◌+◌, ◌-◌, ◌*◌, ◌/◌, ◌%◌, ◌^◌, ◌<◌, ◌==◌, Bool, if◌then◌else◌}
 use Rattle.mas.specs.declared.registers.Mas.{Mas}
 use Rattle.mas.specs.declared.entry.Entry.{Entry}
@@ -15,7 +15,7 @@ pub record Fits (entry : Entry) : Type 0 where
   pub rpn_whole : entry.rpn % 2 ^ 12 ≡ 0
   pub perms_small : entry.perms < 2 ^ 10
 
--- the translation that the registers say
+-- the translation that the registers hold
 unfoldable pub entry_of : Mas → Entry
 entry_of mas = record {
   valid = v_bit mas.m1;
@@ -33,9 +33,9 @@ entry_of mas = record {
 abbrev pub mas1_of : Bool → Bool → ℕ → Bool → ℕ → ℕ
 mas1_of valid iprot tid ts tsize = bit valid * 2 ^ 31 + bit iprot * 2 ^ 30 + tid * 2 ^ 16 + bit ts * 2 ^ 12 + tsize * 2 ^ 8
 
--- the registers that say a translation; which TLB, the defaults and the search stay
-unfoldable pub told : Entry → Mas → Mas
-told entry mas = record mas {
+-- the registers when they report a translation: which TLB, the defaults and the search stay
+unfoldable pub reporting : Entry → Mas → Mas
+reporting entry mas = record mas {
   m1 = mas1_of entry.valid entry.iprot entry.tid entry.ts entry.tsize;
   m2 = entry.epn + entry.wimge;
   m3 = entry.rpn % 2 ^ 32 + entry.perms;

@@ -1,3 +1,5 @@
+//! A translation of a page.
+
 /// A translation of a page (Power ISA 2.06, Book III-E, chapter 6): whose accesses it is for, and where they go.
 #[derive(Clone, Copy, Debug, PartialEq, Eq)]
 pub struct Entry {

@@ -1,20 +1,20 @@
 //! Laws of the definitions. Each is a function with nothing to do, whose contract is the law.
 
-ghost use Rattle.mas.specs.Laws.{SaidFits, ToldIsSaid, MissSaysPage, MissNamesVictim, MissSaysSearch};
+ghost use Rattle.mas.specs.Laws.{HeldFits, ReportedIsHeld, MissReportsPage, MissNamesVictim, MissSetsSearch};
 
-/// What registers say fits them, whatever their bits.
-pub fn said_translations_fit()
-    ensures { SaidFits }
+/// The translation that registers hold fits them, whatever their bits.
+pub fn held_translations_fit()
+    ensures { HeldFits }
 {}
 
-/// A translation that fits and is told in the registers is what they then say.
-pub fn told_is_said()
-    ensures { ToldIsSaid }
+/// The registers that report a translation that fits hold it.
+pub fn reported_is_held()
+    ensures { ReportedIsHeld }
 {}
 
 /// A TLB error leaves a translation of the page that missed, where it is to be put, and the search that would find it.
-pub fn misses_name_their_page()
-    ensures page { MissSaysPage }
+pub fn misses_report_their_page()
+    ensures page { MissReportsPage }
     ensures victim { MissNamesVictim }
-    ensures search { MissSaysSearch }
+    ensures search { MissSetsSearch }
 {}

@@ -1,3 +1,5 @@
+//! The registers, with the fields that say which entry is meant and what a search looks for.
+
 /// The MMU assist registers MAS0 to MAS4, MAS6 and MAS7 (Power ISA 2.06, Book III-E, chapter 6), with the
 /// fields of the e500mc core.
 #[derive(Clone, Copy, Debug, PartialEq, Eq)]
@@ -16,4 +18,70 @@ pub struct Mas {
     pub m6: u32,
     /// MAS7: the upper RPN 0xF.
     pub m7: u32,
+}
+
+impl Mas {
+    ghost use Rattle.std.specs.Prelude.{◌≡◌, ◌<◌, ◌^◌};
+    ghost use Rattle.mas.specs.Fields.{tlbsel_field, esel_field, nv_field, spid_field, sas_bit, with_nv, with_tlbsel_esel};
+
+    /// TLBSEL: which TLB is meant, 0 or 1; 2 and 3 are none of this core's.
+    pub fn tlbsel(&self) -> u8
+        ensures field { result ≡ tlbsel_field self.now.m0 }
+        ensures bound { result < 4 }
+    {
+        ((self.m0 >> 28) % 4) as u8
+    }
+
+    /// ESEL: which entry is meant, a way of a set of TLB0 or a slot of TLB1.
+    pub fn esel(&self) -> u16
+        ensures field { result ≡ esel_field self.now.m0 }
+        ensures bound { result < 2 ^ 12 }
+    {
+        ((self.m0 >> 16) % 0x1000) as u16
+    }
+
+    /// NV: the way of TLB0 that the next miss is to replace.
+    pub fn nv(&self) -> u16
+        ensures field { result ≡ nv_field self.now.m0 }
+        ensures bound { result < 2 ^ 12 }
+    {
+        (self.m0 % 0x1000) as u16
+    }
+
+    /// SPID: the PID that a search is for.
+    pub fn spid(&self) -> u16
+        ensures field { result ≡ spid_field self.now.m6 }
+        ensures bound { result < 2 ^ 14 }
+    {
+        ((self.m6 >> 16) % 0x4000) as u16
+    }
+
+    /// SAS: the address space that a search is for.
+    pub fn sas(&self) -> bool
+        ensures { result ≡ sas_bit self.now.m6 }
+    {
+        self.m6 % 2 == 1
+    }
+
+    /// The registers with another NV.
+    pub fn with_nv(&self, nv: u8) -> Mas
+        ensures { result ≡ record self.now { m0 = with_nv nv self.now.m0 } }
+    {
+        Mas {
+            m0: self.m0 - self.m0 % 0x1000 + nv as u32,
+            ..*self
+        }
+    }
+
+    /// The registers with another TLBSEL and another ESEL, each cut to its field: 2 and 12 bits.
+    pub fn with_tlbsel_esel(&self, tlb: u8, entry: u16) -> Mas
+        ensures { result ≡ record self.now { m0 = with_tlbsel_esel tlb entry self.now.m0 } }
+    {
+        let above = self.m0 / 0x4000_0000 * 0x4000_0000;
+        let place = (tlb % 4) as u32 * 0x1000_0000 + (entry % 0x1000) as u32 * 0x1_0000;
+        Mas {
+            m0: above + place + self.m0 % 0x1_0000,
+            ..*self
+        }
+    }
 }

@@ -1,9 +1,6 @@
 //! Values that were worked out by hand.
 
-use super::{
-    Entry, Mas, from_mas, miss_mas, next_victim, search_pid, search_space, tlb_select, to_mas,
-    with_next_victim, with_place,
-};
+use super::{Entry, Mas, from_mas, is_below_end, is_in_page, miss_mas, page_size, to_mas};
 
 const NONE: Mas = Mas {
     m0: 0,
@@ -36,6 +33,21 @@ fn fields_stand_at_their_masks(rt: HostRuntime) {
         perms: 0x2B5,
     };
     assert_eq!(rt; from_mas(&mas), entry);
+    let want = Mas {
+        m0: 0x1001_0000,
+        m3: 0x8765_42B5,
+        ..mas
+    };
+    assert_eq!(rt;
+        to_mas(
+            &entry,
+            &Mas {
+                m0: 0x1001_0000,
+                ..NONE
+            }
+        ),
+        want
+    );
 }
 
 #[test]
@@ -45,12 +57,13 @@ fn places_and_searches(rt: HostRuntime) {
         m6: 0x3FFE_0001,
         ..NONE
     };
-    assert_eq!(rt; tlb_select(&mas), 1);
-    assert_eq!(rt; next_victim(&mas), 0x123);
-    assert_eq!(rt; search_pid(&mas), 0x3FFE);
-    assert!(rt; search_space(&mas));
-    assert_eq!(rt; with_next_victim(&mas, 2).m0, 0x1ABC_0002);
-    assert_eq!(rt; with_place(&mas, 0, 3).m0, 0x0003_0123);
+    assert_eq!(rt; mas.tlbsel(), 1);
+    assert_eq!(rt; mas.esel(), 0xABC);
+    assert_eq!(rt; mas.nv(), 0x123);
+    assert_eq!(rt; mas.spid(), 0x3FFE);
+    assert!(rt; mas.sas());
+    assert_eq!(rt; mas.with_nv(2).m0, 0x1ABC_0002);
+    assert_eq!(rt; mas.with_tlbsel_esel(0, 3).m0, 0x0003_0123);
 }
 
 #[test]
@@ -81,4 +94,24 @@ fn misses(rt: HostRuntime) {
         };
         assert_eq!(rt; miss_mas(&mas, 7, true, 0x0400_1ABC, nv), want, "{m4}");
     }
+}
+
+#[test]
+fn pages_have_their_addresses(rt: HostRuntime) {
+    let cases = [
+        // EPN, TSIZE, the address
+        (0x0400_1000, 1, 0x0400_1000, true),
+        (0x0400_1000, 1, 0x0400_1FFF, true),
+        (0x0400_1000, 1, 0x0400_2000, false),
+        (0x0400_4000, 2, 0x0400_3FFF, false),
+        (0x0400_4000, 2, 0x0400_7FFF, true),
+        (0xFFFF_F000, 1, 0xFFFF_FFFF, true),
+        (0x0000_0000, 11, 0xFFFF_FFFF, true),
+    ];
+    for (epn, tsize, ea, want) in cases {
+        assert_eq!(rt; is_in_page(epn, tsize, ea), want, "{ea}");
+    }
+    assert!(rt; is_below_end(0x0400_4000, 2, 0x0400_3FFF));
+    assert_eq!(rt; page_size(1), 0x1000);
+    assert_eq!(rt; page_size(11), 0x1_0000_0000);
 }

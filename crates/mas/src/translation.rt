@@ -2,7 +2,7 @@
 
 ghost use Rattle.std.specs.Prelude.{◌≡◌, ◌<◌, ◌≤◌};
 ghost use Rattle.mas.specs.Fields.{epn_field, rpn_field};
-ghost use Rattle.mas.specs.Translation.{Fits, entry_of, told, mas1_of, victim, missed};
+ghost use Rattle.mas.specs.Translation.{Fits, entry_of, reporting, mas1_of, victim, missed};
 
 use crate::entry::Entry;
 use crate::registers::Mas;
@@ -21,8 +21,8 @@ fn logical_address(m7: u32, m3: u32) -> u64
     (m7 % 16) as u64 * 0x1_0000_0000 + page_address(m3) as u64
 }
 
-/// The translation that the registers say.
-#[tactic(auto, using(crate::proofs::Said::said_fits_at), unfolding(crate::specs::Translation::entry_of))]
+/// The translation that the registers hold.
+#[tactic(auto, using(crate::proofs::Held::held_fits_at), unfolding(crate::specs::Translation::entry_of))]
 pub fn from_mas(mas: &Mas) -> Entry
     ensures entry { result ≡ entry_of mas.now }
     ensures fits { Fits result }
@@ -49,11 +49,11 @@ fn mas1(entry: &Entry) -> u32
     marks + entry.tid as u32 * 0x1_0000 + entry.ts as u32 * 0x1000 + entry.tsize as u32 * 0x100
 }
 
-/// The registers that tell a translation: MAS1, MAS2, MAS3 and MAS7. The others stay.
-#[tactic(auto, unfolding(crate::specs::Translation::told))]
+/// The registers when they report a translation, in MAS1, MAS2, MAS3 and MAS7. The others stay.
+#[tactic(auto, unfolding(crate::specs::Translation::reporting))]
 pub fn to_mas(entry: &Entry, mas: &Mas) -> Mas
     requires { Fits entry.now }
-    ensures { result ≡ told entry.now mas.now }
+    ensures { result ≡ reporting entry.now mas.now }
 {
     Mas {
         m1: mas1(entry),

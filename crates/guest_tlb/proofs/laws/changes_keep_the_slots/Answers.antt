@@ -1,4 +1,4 @@
-use Rattle.guest_tlb.proofs.Upkeep.{reset_is_kept, writes_keep_all, sweeps_keep_all}
+use Rattle.guest_tlb.proofs.Upkeep.{reset_is_kept, writes_keep_all, invalidations_keep_all}
 use Rattle.guest_tlb.proofs.laws.changes_keep_the_slots.Goals as goal
 
 pub returns-clause-reset : goal.returns-clause-reset
@@ -7,5 +7,5 @@ returns-clause-reset c = reset_is_kept
 pub returns-clause-write : goal.returns-clause-write
 returns-clause-write c = writes_keep_all
 
-pub returns-clause-sweep : goal.returns-clause-sweep
-returns-clause-sweep c = sweeps_keep_all
+pub returns-clause-invalidation : goal.returns-clause-invalidation
+returns-clause-invalidation c = invalidations_keep_all

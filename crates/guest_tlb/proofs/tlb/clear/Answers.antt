@@ -1,5 +1,7 @@
-use Rattle.guest_tlb.proofs.Upkeep.{cleared}
+use Rattle.std.proofs.Common.{arith}
+use Rattle.guest_tlb.proofs.Reset.{filled}
 use Rattle.guest_tlb.proofs.tlb.clear.Goals as goal
 
 pub returns : goal.returns
-returns c = cleared _ _ _ (c.fill.ensures.after (λ y h. h)) c.requires c.initial.ensures
+returns c =
+    filled _ (omega arith) (λ k h. c.loop-slot.invariant k (omega arith))

@@ -1,4 +1,4 @@
-use Rattle.std.proofs.Common.{arith, ap, sym, ◌∙◌, ◌≡◌, ℕ, ◌+◌, ◌-◌, ◌≤◌, take, drop, length, Some, None}
+use Rattle.std.proofs.Common.{arith, ap, sym, ◌∙◌, ◌≡◌, ◌+◌, ◌-◌, take, drop, length}
 use Rattle.guest_tlb.specs.Slots.{search_of}
 use Rattle.guest_tlb.proofs.Windows.{found_within, not_within}
 use Rattle.guest_tlb.proofs.tlb.slot_for.Goals as goal

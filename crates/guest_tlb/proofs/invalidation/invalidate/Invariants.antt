@@ -2,7 +2,7 @@ use Rattle.std.proofs.Common.{◌≡◌, ◌≤◌}
 use Rattle.arrayvec.specs.ArrayVec.{array_vec_len}
 use Rattle.guest_tlb.specs.Ending.{test_of}
 use Rattle.guest_tlb.proofs.Passes.{partly, ended_below}
-use Rattle.guest_tlb.proofs.sweep.sweep.Given as goal
+use Rattle.guest_tlb.proofs.invalidation.invalidate.Given as goal
 
 abbrev pub invariant-loop-slot : goal.invariant-loop-slot
 invariant-loop-slot l = record {

@@ -7,16 +7,16 @@ use Rattle.mas.specs.declared.entry.Entry.{Entry}
 use Rattle.guest_tlb.specs.Translation.{has_address, meets}
 use Rattle.guest_tlb.specs.Slots.{is_in_tlb0, entry_at, named_slot, written_entry}
 
--- A translation that ended keeps its fields, but is dead.
-abbrev pub ended : Entry → Entry
-ended entry = record entry { valid = false }
+-- A translation that is invalidated keeps its fields, but is dead.
+abbrev pub dead : Entry → Entry
+dead entry = record entry { valid = false }
 
 abbrev pub after : (ℕ → Entry → Bool) → ℕ → Entry → Entry
-after ends slot entry = if ends slot entry then ended entry else entry
+after ends slot entry = if ends slot entry then dead entry else entry
 
--- the slots after the translations that pass the test ended
-unfoldable pub swept : (ℕ → Entry → Bool) → List Entry → List Entry
-swept ends slots = map (λ p. after ends p.0 p.1) (enumerate_from 0 slots)
+-- the slots after the translations that pass the test were invalidated
+unfoldable pub invalidated : (ℕ → Entry → Bool) → List Entry → List Entry
+invalidated ends slots = map (λ p. after ends p.0 p.1) (enumerate_from 0 slots)
 
 -- the slots that pass the test, in rising order
 unfoldable pub ended_slots : (ℕ → Entry → Bool) → List Entry → List ℕ
@@ -47,14 +47,14 @@ unfoldable pub ends_address : ℕ → Option ℕ → Bool → Bool → ℕ → E
 ends_address ea pid tlb0 tlb1 slot entry =
     is_exposed entry && (is_chosen tlb0 tlb1 slot && (has_tid pid entry && has_address entry ea))
 
--- A write takes its slot, whatever was there, and where it is live each other live translation that it meets ends, protected
--- or not.
-unfoldable pub gives_way : ℕ → Entry → ℕ → Entry → Bool
-gives_way at new slot entry = slot == at || (new.valid && (entry.valid && meets new entry))
+-- A write overwrites its slot, whatever was there, and where it is live it invalidates each other live translation that it meets,
+-- protected or not.
+unfoldable pub ends_write : ℕ → Entry → ℕ → Entry → Bool
+ends_write at new slot entry = slot == at || (new.valid && (entry.valid && meets new entry))
 
 -- the slots after a translation was written into one
 abbrev pub with_entry : ℕ → Entry → List Entry → List Entry
-with_entry at new slots = slice_set (swept (gives_way at new) slots) at new
+with_entry at new slots = slice_set (invalidated (ends_write at new) slots) at new
 
 -- the slots after a write of these registers, which may name no slot
 abbrev pub written_at : Option ℕ → Mas → List Entry → List Entry
@@ -64,10 +64,10 @@ written_at (Some at) mas slots = with_entry at (written_entry at mas) slots
 unfoldable pub after_write : Mas → List Entry → List Entry
 after_write mas slots = written_at (named_slot mas) mas slots
 
--- the slots that such a write took or ended
+-- the slots that such a write overwrote or invalidated
 abbrev pub ended_at : Option ℕ → Mas → List Entry → List ℕ
 ended_at None mas slots = []
-ended_at (Some at) mas slots = ended_slots (gives_way at (written_entry at mas)) slots
+ended_at (Some at) mas slots = ended_slots (ends_write at (written_entry at mas)) slots
 
 unfoldable pub ended_by_write : Mas → List Entry → List ℕ
 ended_by_write mas slots = ended_at (named_slot mas) mas slots

@@ -1,9 +1,0 @@
-use Rattle.std.proofs.Common.{arith}
-use Rattle.guest_tlb.proofs.Passes.{lent_back}
-use Rattle.guest_tlb.proofs.Upkeep.{all_kept_of, swept_all_kept}
-use Rattle.guest_tlb.proofs.tlb.GuestTlb.end.Goals as goal
-
-pub invariant_of-self : goal.invariant_of-self
-invariant_of-self c =
-    swept_all_kept _ c.deref_mut.result.now _ (lent_back _ c.deref_mut.result.now _ _ _ (omega arith) c.sweep.auto.slots c.sweep.ensures.slots)
-    (all_kept_of _ _ c.deref_mut.ensures.value c.self.invariant)
