@@ -2,3 +2,8 @@ pub mod Covered
 pub mod Sizes
 pub mod Stay
 pub mod Unchanged
+pub mod Own
+pub mod Alone
+pub mod Tries
+pub mod Few
+pub mod Alikes

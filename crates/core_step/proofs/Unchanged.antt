@@ -1,6 +1,7 @@
 -- An instruction that is neither done nor waits has changed nothing.
 use Rattle.std.proofs.Common.{◌≡◌, ℕ, ◌%◌, ◌==◌, Bool, true, false, not, ◌&&◌, cond, List, Result, Ok, Err, refl, subst}
 use Rattle.insn.specs.declared.instruction.Insn.{Insn}
+use Rattle.guest_regs.specs.State.{privileged}
 use Rattle.guest_regs.specs.Registers.{Registers, in_problem_state}
 use Rattle.insn_alu.specs.declared.effect.Effect.{Effect}
 use Rattle.insn_alu.specs.declared.effect.Effect.TheVariants as effect
@@ -11,7 +12,7 @@ use Rattle.core_step.specs.declared.access.Place.{Place}
 use Rattle.core_step.specs.declared.access.Fault.{Fault}
 use Rattle.core_step.specs.declared.access.Fault.TheVariants.{Missing, Denied, Reversed}
 use Rattle.core_step.specs.Pages.{Lookup}
-use Rattle.core_step.specs.Step.{Answer, Stepped, KeepsUnlessDone, unchanged, load_done, store_done, conditional_done, access_done, done_unless, accessed, performed, instruction_done, fetched, stepped, holds, first_granule, is_aligned, data_fault, Align, Program, Priv, privileged}
+use Rattle.core_step.specs.Step.{Answer, Stepped, KeepsUnlessDone, unchanged, load_done, store_done, conditional_done, access_done, done_unless, accessed, performed, instruction_done, fetched, stepped, holds, first_granule, is_aligned, data_fault, Align, Program, Priv}
 
 record Keeps (done : Stepped) (registers : Registers) (memory : List (List ℕ)) : Type 0 where
   kept : KeepsUnlessDone done.answer registers done.registers memory done.memory

@@ -1,5 +1,6 @@
 -- The pages that an access may look at, and what they allow (Power ISA 2.06, Book III-E: address translation and access control).
-use Rattle.std.specs.Prelude.{◌≡◌, ℕ, ◌+◌, ◌*◌, ◌%◌, ◌^◌, ◌<◌, ◌≤◌, Bool, List, length, Option, IfSome}
+use Rattle.std.specs.Prelude.{◌≡◌, ℕ, ◌+◌, ◌%◌, ◌^◌, ◌<◌, ◌≤◌, Bool, List, length, Option, IfSome}
+use Rattle.mas.specs.Page as tlb
 use Rattle.ground.specs.Extents.{extent_at}
 use Rattle.core_step.specs.declared.look.Page.{Page}
 
@@ -7,9 +8,9 @@ use Rattle.core_step.specs.declared.look.Page.{Page}
 abbrev pub Lookup : Type 0
 Lookup = Bool → ℕ → ℕ → Option Page
 
--- 4 ^ TSIZE KiB
+-- its size in bytes
 abbrev pub page_size : Page → ℕ
-page_size page = 4 ^ page.tsize * 1024
+page_size page = tlb.page_size page.tsize
 
 -- The page has a size of the standard and is aligned to it, it has the address, and as many bytes of real memory stand behind it.
 pub record IsBacked (memory : List (List ℕ)) (ea : ℕ) (page : Page) : Type 0 where

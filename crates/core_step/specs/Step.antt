@@ -2,6 +2,7 @@
 use Rattle.std.specs.Prelude.{◌≡◌, ⊤, ℕ, ◌-◌, ◌%◌, ◌==◌, Bool, true, false, not, ◌&&◌, List, [], ◌∷◌, Option, Some, None, Result, Ok, Err, if◌then◌else◌}
 use Rattle.insn.specs.Table.{op_of}
 use Rattle.insn.specs.declared.instruction.Insn.{Insn}
+use Rattle.guest_regs.specs.State.{illegal, privileged, trap}
 use Rattle.guest_regs.specs.Registers.{Registers, advanced, in_problem_state, instruction_space, data_space}
 use Rattle.insn_alu.specs.declared.effect.Effect.{Effect}
 use Rattle.insn_alu.specs.declared.effect.Effect.TheVariants as effect
@@ -150,16 +151,6 @@ accessed lookup insn access registers memory =
     insn access registers memory
 
 -- ---- the instruction
-
--- PIL, PPR and PTR of ESR
-abbrev pub illegal : ℕ
-illegal = 0x08000000
-
-abbrev pub privileged : ℕ
-privileged = 0x04000000
-
-abbrev pub trap : ℕ
-trap = 0x02000000
 
 -- wait sets the idle flag and goes on behind itself
 abbrev pub idle : Registers → Registers

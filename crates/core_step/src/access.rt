@@ -34,14 +34,14 @@ pub enum Fault {
     Reversed(u32),
 }
 
-// How many bytes the 4 KiB page has from an address on.
+/// How many bytes the 4 KiB page has from an address on.
 fn room_from(ea: u32) -> u32
     ensures { result ≡ spec.room_from ea }
 {
     4096 - ea % 4096
 }
 
-// An extent has fewer than 2^32 bytes, so an offset in it fits.
+/// An extent has fewer than 2^32 bytes, so an offset in it fits.
 #[tactic(auto, unfolding(crate::specs::Access::place_in))]
 fn place_in(ground: &Ground, page: Page, part: Part) -> Place
     requires { IsBacked ground.now part.ea page }
@@ -58,6 +58,7 @@ fn place_in(ground: &Ground, page: Page, part: Part) -> Place
     }
 }
 
+/// Whether a page has the permission, given by its bit of MAS3.
 fn allows(page: Page, permission: u16) -> bool
     requires { 0 < permission }
     ensures { result ≡ spec.allows page permission }
@@ -65,7 +66,7 @@ fn allows(page: Page, permission: u16) -> bool
     page.perms / permission % 2 == 1
 }
 
-// The place of a part in the page that covers it, if any does.
+/// The place of a part in the page that covers it, if any does.
 #[tactic(auto, unfolding(crate::specs::Access::place_or_fault))]
 fn place_or_fault(
     ground: &Ground,
@@ -89,7 +90,7 @@ fn place_or_fault(
     Ok(place_in(ground, page, part))
 }
 
-// The same of the page that is looked up. A part that lies in one 4 KiB page lies in its page.
+/// The same of the page that is looked up. A part that lies in one 4 KiB page lies in its page.
 pub fn look_up<L: Look>(
     look: &L,
     ground: &Ground,

@@ -14,38 +14,38 @@ use ground::Ground;
 use guest_regs::Regs;
 use std::marker::Model;
 
-/// A core: its registers.
+/// A core: its registers. Contracts see the record `CoreState`.
 #[derive(Drop)]
 pub struct Core {
     regs: Regs,
 }
 
 impl Model for Core {
-    ghost use Rattle.guest_regs.specs.Registers.{Registers};
+    ghost use Rattle.core_step.specs.Core.{CoreState};
 
-    ghost Value = { Registers };
+    ghost Value = { CoreState };
 
-    ghost view = { λ core. core.regs };
+    ghost view = { λ core. record { registers = core.regs } };
 }
 
 impl Core {
     /// A core with these registers.
     pub fn new(regs: Regs) -> Core
-        ensures { result ≡ regs }
+        ensures { result ≡ record { registers = regs } }
     {
         Core { regs }
     }
 
     /// Its registers.
     pub fn regs(&self) -> &Regs
-        ensures { result.now ≡ self.now }
+        ensures { result.now ≡ self.now.registers }
     {
         &self.regs
     }
 
     /// Its registers, to be changed.
     pub fn regs_mut(&mut self) -> &mut Regs
-        ensures lent { result.now ≡ self.old }
+        ensures lent { result.now ≡ self.old.registers }
         ensures* ends { sem 𝓛 (LendsRegisters self.entry result) }
     {
         &mut self.regs
@@ -57,9 +57,9 @@ impl Core {
     pub fn step<L: Look>(&mut self, look: &L, ground: &mut Ground) -> Hw
         requires { AreBacked ground.old (L.lookup look.now) }
         // The answer, the registers and the memory are those of the definition.
-        ensures done { spec.stepped (L.lookup look.now) self.old ground.old
-            ≡ record { answer = spec.answered result; registers = self.new; memory = ground.new } }
-        ensures kept { spec.KeepsUnlessDone (spec.answered result) self.old self.new ground.old ground.new }
+        ensures done { spec.stepped (L.lookup look.now) self.old.registers ground.old
+            ≡ record { answer = spec.answered result; registers = self.new.registers; memory = ground.new } }
+        ensures kept { spec.KeepsUnlessDone (spec.answered result) self.old.registers self.new.registers ground.old ground.new }
         // Extents keep their sizes, so the pages are backed as before.
         ensures sizes { SameSizes ground.old ground.new }
     {

@@ -1,6 +1,7 @@
 //! An instruction: its fetch, and what its effect asks for.
 
 ghost use Rattle.std.specs.Prelude.{◌≡◌, ◌<◌, ℕ, IfOk, if◌then◌else◌};
+ghost use Rattle.guest_regs.specs.State as state;
 ghost use Rattle.guest_regs.specs.Registers.{in_problem_state, instruction_space};
 ghost use Rattle.core_step.specs.Pages.{AreBacked};
 ghost use Rattle.core_step.specs.Access as access;
@@ -13,18 +14,11 @@ use crate::stepping::{fetch_fault, fetching};
 use crate::transfer::transfer;
 use arrayvec::ArrayVec;
 use ground::Ground;
-use guest_regs::Regs;
+use guest_regs::{Regs, esr};
 use insn::{Insn, decode};
 use insn_alu::{Effect, exec};
 
-// The bits of ESR for an illegal instruction, a privileged one and a trap.
-const ILLEGAL: u32 = 0x0800_0000;
-
-const PRIVILEGED: u32 = 0x0400_0000;
-
-const TRAP: u32 = 0x0200_0000;
-
-// Sets the idle flag, and goes on behind the instruction.
+/// Sets the idle flag, and goes on behind the instruction.
 fn wait(regs: &mut Regs)
     ensures { regs.new ≡ spec.idle regs.old }
 {
@@ -32,17 +26,18 @@ fn wait(regs: &mut Regs)
     regs.advance();
 }
 
+/// A privileged instruction: the layers above do it for the system, and user programs are refused.
 fn privileged(insn: Insn, regs: &Regs) -> Hw
-    ensures { spec.answered result ≡ (if in_problem_state regs.now then spec.Program spec.privileged else spec.Priv insn) }
+    ensures { spec.answered result ≡ (if in_problem_state regs.now then spec.Program state.privileged else spec.Priv insn) }
 {
     if regs.is_user() {
-        Hw::Program(PRIVILEGED)
+        Hw::Program(esr::PRIVILEGED)
     } else {
         Hw::Priv(insn)
     }
 }
 
-// Does the instruction, or as much of it as is the core's.
+/// Does the instruction, or as much of it as is the core's.
 #[tactic(auto, unfolding(crate::specs::Step::instruction_done, crate::specs::Step::performed))]
 fn perform<L: Look>(look: &L, insn: Insn, regs: &mut Regs, ground: &mut Ground) -> Hw
     requires { AreBacked ground.old (L.lookup look.now) }
@@ -54,8 +49,8 @@ fn perform<L: Look>(look: &L, insn: Insn, regs: &mut Regs, ground: &mut Ground) 
         Effect::Done => Hw::Retired(ArrayVec::new()),
         Effect::Memory(made) => transfer(look, insn, made, regs, ground),
         Effect::Priv => privileged(insn, regs),
-        Effect::Trap => Hw::Program(TRAP),
-        Effect::Illegal => Hw::Program(ILLEGAL),
+        Effect::Trap => Hw::Program(esr::TRAP),
+        Effect::Illegal => Hw::Program(esr::ILLEGAL),
         Effect::NoFloat => Hw::NoFloat,
         Effect::Syscall => Hw::Sc,
         Effect::Hcall => Hw::Hcall,
@@ -66,7 +61,7 @@ fn perform<L: Look>(look: &L, insn: Insn, regs: &mut Regs, ground: &mut Ground) 
     }
 }
 
-// Where the instruction at the PC lies.
+/// Where the instruction at the PC lies.
 fn fetch<L: Look>(look: &L, regs: &Regs, ground: &Ground) -> Result<Place, Fault>
     requires { AreBacked ground.now (L.lookup look.now) }
     ensures value { result ≡ access.place_or_fault (access.fetching (in_problem_state regs.now)) (record { ea = regs.now.pc; len = 4 })
@@ -82,7 +77,7 @@ fn fetch<L: Look>(look: &L, regs: &Regs, ground: &Ground) -> Result<Place, Fault
         look,
         ground,
         regs.instruction_space(),
-        regs.pid() as u16,
+        regs.pid(),
         fetching(regs),
         part,
     )

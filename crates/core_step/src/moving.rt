@@ -23,6 +23,7 @@ pub fn load_bytes(ground: &Ground, places: Places) -> ArrayVec<u8, 128>
     bytes
 }
 
+/// Appends the bytes at a place.
 fn push_place(bytes: &mut ArrayVec<u8, 128>, ground: &Ground, place: Place)
     requires inside { spec.IsInside ground.now place }
     requires room { length bytes.old.items + place.len ≤ 128 }
@@ -35,7 +36,7 @@ fn push_place(bytes: &mut ArrayVec<u8, 128>, ground: &Ground, place: Place)
     }
 }
 
-// Puts bytes at a place.
+/// Puts bytes at a place.
 #[tactic(auto, using(crate::proofs::Stay::same_sizes))]
 fn put_place(ground: &mut Ground, place: Place, bytes: &[u8])
     requires inside { spec.IsInside ground.old place }
@@ -72,6 +73,7 @@ pub fn ranges(places: Places) -> ArrayVec<Wrote, 2>
     ranges
 }
 
+/// The range of real memory that a place is.
 fn range_of(place: Place) -> Wrote
     ensures { result ≡ spec.range_of place }
 {

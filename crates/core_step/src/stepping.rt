@@ -10,6 +10,7 @@ use crate::answer::Hw;
 use guest_regs::Regs;
 use insn_alu::Form;
 
+/// The permission that a fetch needs: UX, or SX of the system.
 pub fn fetching(regs: &Regs) -> u16
     ensures value { result ≡ access.fetching (in_problem_state regs.now) }
     ensures some { 0 < result }
@@ -17,6 +18,7 @@ pub fn fetching(regs: &Regs) -> u16
     if regs.is_user() { 32 } else { 16 }
 }
 
+/// The permission that a load or store needs: UW, SW, UR or SR.
 pub fn access_permission(store: bool, regs: &Regs) -> u16
     ensures value { result ≡ spec.access_permission store regs.now }
     ensures some { 0 < result }
@@ -29,6 +31,7 @@ pub fn access_permission(store: bool, regs: &Regs) -> u16
     }
 }
 
+/// Whether an access has to begin at a multiple of 4.
 pub fn is_aligned(form: Form) -> bool
     ensures { result ≡ spec.is_aligned form }
 {
@@ -38,6 +41,7 @@ pub fn is_aligned(form: Form) -> bool
     }
 }
 
+/// What the first fault of a load or store answers.
 pub fn data_fault(store: bool, fault: Fault) -> Hw
     ensures { spec.answered result ≡ spec.data_fault store fault }
 {
@@ -56,6 +60,7 @@ pub fn data_fault(store: bool, fault: Fault) -> Hw
     }
 }
 
+/// What the fault of a fetch answers.
 pub fn fetch_fault(pc: u32, fault: Fault) -> Hw
     ensures { spec.answered result ≡ spec.fetch_fault pc fault }
 {
@@ -66,12 +71,14 @@ pub fn fetch_fault(pc: u32, fault: Fault) -> Hw
     }
 }
 
+/// The reservation granule of the first byte, by its logical address (Power ISA 2.06, Book II, chapter 4).
 pub fn first_granule(places: Places) -> u64
     ensures { result ≡ spec.first_granule (access.in_order places) }
 {
     places.first.logical - places.first.logical % 64
 }
 
+/// Whether that granule is reserved.
 pub fn holds(regs: &Regs, granule: u64) -> bool
     ensures { result ≡ spec.holds regs.now granule }
 {

@@ -5,12 +5,12 @@ ghost use Rattle.std.specs.Prelude.{◌≡◌, ◌∷◌, [], IfOk, length, map}
 
 use super::{Core, Hw, Look, Page, Wrote};
 use ground::Ground;
-use guest_regs::{Regs, boot};
+use guest_regs::{boot, esr, msr};
 use outside::NoMemory;
 use std::alloc::Global;
 use std::test::Fail;
 
-// The page at 0x4000, of logical address 0x10000, with these permissions. In space 1 it is always little-endian.
+/// The page at 0x4000, of logical address 0x10000, with these permissions. In space 1 it is always little-endian.
 #[derive(Drop)]
 struct OnePage {
     perms: u16,
@@ -41,12 +41,12 @@ impl Look for OnePage {
     }
 }
 
-// All permissions of the system, and of user programs.
+/// All permissions of the system, and of user programs.
 const SYSTEM: u16 = 0x15;
 
 const USER: u16 = 0x2A;
 
-// One extent of 16 KiB whose first word is an instruction.
+/// One extent of 16 KiB whose first word is an instruction.
 #[tactic(auto, using(crate::proofs::Stay::first_page, crate::proofs::Stay::same_sizes))]
 fn memory(alloc: Global, word: u32) -> Result<Ground, NoMemory>
     ensures { IfOk result (λ memory. map length memory ≡ 16384 ∷ []) }
@@ -56,7 +56,7 @@ fn memory(alloc: Global, word: u32) -> Result<Ground, NoMemory>
     Ok(ground)
 }
 
-// A core at the page's first byte, with (r3) and (r4).
+/// A core at the page's first byte, with (r3) and (r4).
 fn core(msr: u32, r3: u32, r4: u32) -> Core {
     let mut regs = boot(0x4000, 0, 0);
     regs.set_msr(msr);
@@ -65,7 +65,7 @@ fn core(msr: u32, r3: u32, r4: u32) -> Core {
     Core::new(regs)
 }
 
-// What one instruction answers, and the core and the memory after it.
+/// What one instruction answers, and the core and the memory after it.
 fn run(
     alloc: Global,
     look: &OnePage,
@@ -82,7 +82,7 @@ fn run(
     Ok((answer, core, ground))
 }
 
-// One instruction over the page.
+/// One instruction over the page.
 fn step(look: &OnePage, core: &mut Core, ground: &mut Ground) -> Hw
     requires { map length ground.old ≡ 16384 ∷ [] }
     ensures { map length ground.new ≡ 16384 ∷ [] }
@@ -90,177 +90,305 @@ fn step(look: &OnePage, core: &mut Core, ground: &mut Ground) -> Hw
     core.step(look, ground)
 }
 
-// PR and DS of the MSR.
-const PROBLEM: u32 = 0x4000;
+/// An answer other than that the instruction is done or waits.
+#[derive(Clone, Copy, Debug, PartialEq, Eq)]
+enum Answer {
+    MissData { ea: u32, store: bool },
+    StorageData { ea: u32, store: bool, little: bool },
+    StorageInsn { little: bool },
+    Align { ea: u32, store: bool },
+    Program(u32),
+    Sc,
+    Hcall,
+    NoFloat,
+    Another,
+}
 
-const DATA_SPACE: u32 = 0x10;
+/// The answer, to be compared.
+fn answer_of(hw: &Hw) -> Answer {
+    match hw {
+        Hw::MissData { ea, store } => Answer::MissData {
+            ea: *ea,
+            store: *store,
+        },
+        Hw::StorageData { ea, store, little } => Answer::StorageData {
+            ea: *ea,
+            store: *store,
+            little: *little,
+        },
+        Hw::StorageInsn { little } => Answer::StorageInsn { little: *little },
+        Hw::Align { ea, store } => Answer::Align {
+            ea: *ea,
+            store: *store,
+        },
+        Hw::Program(esr) => Answer::Program(*esr),
+        Hw::Sc => Answer::Sc,
+        Hw::Hcall => Answer::Hcall,
+        Hw::NoFloat => Answer::NoFloat,
+        Hw::Retired(_) | Hw::Waiting | Hw::Priv(_) | Hw::MissInsn { .. } => Answer::Another,
+    }
+}
+
+/// An instruction that isn't done: its word, the page that it meets, the machine state and (r3) before it, and its answer.
+#[derive(Clone, Copy)]
+struct Case {
+    text: &'static str,
+    word: u32,
+    perms: u16,
+    little: bool,
+    msr: u32,
+    r3: u32,
+    answer: Answer,
+}
+
+/// By the system, in a big-endian page that allows everything.
+const PLAIN: Case = Case {
+    text: "",
+    word: 0,
+    perms: SYSTEM | USER,
+    little: false,
+    msr: 0,
+    r3: 0,
+    answer: Answer::Another,
+};
+
+const NOT_DONE: [Case; 22] = [
+    Case {
+        text: "stw r4,0(r3), past the end of the page: its first byte there",
+        word: 0x9083_0000,
+        r3: 0x7FFE,
+        answer: Answer::MissData {
+            ea: 0x8000,
+            store: true,
+        },
+        ..PLAIN
+    },
+    Case {
+        text: "lwz r4,0(r3), before the page",
+        word: 0x8083_0000,
+        r3: 0x3FFE,
+        answer: Answer::MissData {
+            ea: 0x3FFE,
+            store: false,
+        },
+        ..PLAIN
+    },
+    Case {
+        text: "stw r4,0(r3), by the system without SW",
+        word: 0x9083_0000,
+        perms: 0x11,
+        r3: 0x4100,
+        answer: Answer::StorageData {
+            ea: 0x4100,
+            store: true,
+            little: false,
+        },
+        ..PLAIN
+    },
+    Case {
+        text: "lwz r4,0(r3), by the system without SR",
+        word: 0x8083_0000,
+        perms: 0x14,
+        r3: 0x4100,
+        answer: Answer::StorageData {
+            ea: 0x4100,
+            store: false,
+            little: false,
+        },
+        ..PLAIN
+    },
+    Case {
+        text: "lwz r4,0(r3), fetched by a user program without UX",
+        word: 0x8083_0000,
+        perms: SYSTEM,
+        msr: msr::PROBLEM_STATE,
+        r3: 0x4100,
+        answer: Answer::StorageInsn { little: false },
+        ..PLAIN
+    },
+    Case {
+        text: "lwz r4,0(r3), fetched by the system without SX",
+        word: 0x8083_0000,
+        perms: USER,
+        r3: 0x4100,
+        answer: Answer::StorageInsn { little: false },
+        ..PLAIN
+    },
+    Case {
+        text: "lwz r4,0(r3), fetched from a little-endian page",
+        word: 0x8083_0000,
+        little: true,
+        r3: 0x4100,
+        answer: Answer::StorageInsn { little: true },
+        ..PLAIN
+    },
+    Case {
+        text: "lwz r4,0(r3), by a user program with UX alone",
+        word: 0x8083_0000,
+        perms: 0x20,
+        msr: msr::PROBLEM_STATE,
+        r3: 0x4100,
+        answer: Answer::StorageData {
+            ea: 0x4100,
+            store: false,
+            little: false,
+        },
+        ..PLAIN
+    },
+    Case {
+        text: "stw r4,0(r3), by a user program with UX and UR",
+        word: 0x9083_0000,
+        perms: 0x22,
+        msr: msr::PROBLEM_STATE,
+        r3: 0x4100,
+        answer: Answer::StorageData {
+            ea: 0x4100,
+            store: true,
+            little: false,
+        },
+        ..PLAIN
+    },
+    Case {
+        text: "lwz r4,0(r3), by a user program with UX and UW",
+        word: 0x8083_0000,
+        perms: 0x28,
+        msr: msr::PROBLEM_STATE,
+        r3: 0x4100,
+        answer: Answer::StorageData {
+            ea: 0x4100,
+            store: false,
+            little: false,
+        },
+        ..PLAIN
+    },
+    Case {
+        text: "lwz r4,0(r3), of a little-endian page of data",
+        word: 0x8083_0000,
+        msr: msr::DATA_ADDRESS_SPACE,
+        r3: 0x4100,
+        answer: Answer::StorageData {
+            ea: 0x4100,
+            store: false,
+            little: true,
+        },
+        ..PLAIN
+    },
+    Case {
+        text: "stw r4,0(r3), of a little-endian page of data",
+        word: 0x9083_0000,
+        msr: msr::DATA_ADDRESS_SPACE,
+        r3: 0x4100,
+        answer: Answer::StorageData {
+            ea: 0x4100,
+            store: true,
+            little: true,
+        },
+        ..PLAIN
+    },
+    Case {
+        text: "stw r4,0(r3), of such a page without SW: the permission comes first",
+        word: 0x9083_0000,
+        perms: 0x11,
+        msr: msr::DATA_ADDRESS_SPACE,
+        r3: 0x4100,
+        answer: Answer::StorageData {
+            ea: 0x4100,
+            store: true,
+            little: false,
+        },
+        ..PLAIN
+    },
+    Case {
+        text: "lmw r30,0(r3)",
+        word: 0xBBC3_0000,
+        r3: 0x4102,
+        answer: Answer::Align {
+            ea: 0x4102,
+            store: false,
+        },
+        ..PLAIN
+    },
+    Case {
+        text: "lwarx r4,0,r3",
+        word: 0x7C80_1828,
+        r3: 0x4102,
+        answer: Answer::Align {
+            ea: 0x4102,
+            store: false,
+        },
+        ..PLAIN
+    },
+    Case {
+        text: "stwcx. r4,0,r3",
+        word: 0x7C80_192D,
+        r3: 0x4102,
+        answer: Answer::Align {
+            ea: 0x4102,
+            store: true,
+        },
+        ..PLAIN
+    },
+    Case {
+        text: "stmw r30,0(r3), where no page is: the alignment comes first",
+        word: 0xBFC3_0000,
+        r3: 0x9002,
+        answer: Answer::Align {
+            ea: 0x9002,
+            store: true,
+        },
+        ..PLAIN
+    },
+    Case {
+        text: "sc",
+        word: 0x4400_0002,
+        answer: Answer::Sc,
+        ..PLAIN
+    },
+    Case {
+        text: "sc 1",
+        word: 0x4400_0022,
+        answer: Answer::Hcall,
+        ..PLAIN
+    },
+    Case {
+        text: "no instruction",
+        word: 0x0000_0000,
+        answer: Answer::Program(esr::ILLEGAL),
+        ..PLAIN
+    },
+    Case {
+        text: "tw 31,r0,r0",
+        word: 0x7FE0_0008,
+        answer: Answer::Program(esr::TRAP),
+        ..PLAIN
+    },
+    Case {
+        text: "lfd f0,0(r3)",
+        word: 0xC803_0000,
+        answer: Answer::NoFloat,
+        ..PLAIN
+    },
+];
 
 #[test]
 #[tactic(auto, using(crate::proofs::Stay::first_page))]
 fn instructions_that_are_not_done(rt: HostRuntime) -> Result<(), Fail> {
-    let alloc = rt.alloc();
-    let all = SYSTEM | USER;
-    for (word, perms, little, msr, r3, answer) in [
-        // stw r4,0(r3) past the end: its first byte there
-        (
-            0x9083_0000,
-            all,
-            false,
-            0,
-            0x7FFE,
-            "MissData { ea: 32768, store: true }",
-        ),
-        (
-            0x8083_0000,
-            all,
-            false,
-            0,
-            0x3FFE,
-            "MissData { ea: 16382, store: false }",
-        ),
-        (
-            0x9083_0000,
-            0x11,
-            false,
-            0,
-            0x4100,
-            "StorageData { ea: 16640, store: true, little: false }",
-        ),
-        (
-            0x8083_0000,
-            0x14,
-            false,
-            0,
-            0x4100,
-            "StorageData { ea: 16640, store: false, little: false }",
-        ),
-        (
-            0x8083_0000,
-            SYSTEM,
-            false,
-            PROBLEM,
-            0x4100,
-            "StorageInsn { little: false }",
-        ),
-        (
-            0x8083_0000,
-            USER,
-            false,
-            0,
-            0x4100,
-            "StorageInsn { little: false }",
-        ),
-        (
-            0x8083_0000,
-            all,
-            true,
-            0,
-            0x4100,
-            "StorageInsn { little: true }",
-        ),
-        // UX alone, then UX and UR, and UX and UW
-        (
-            0x8083_0000,
-            0x20,
-            false,
-            PROBLEM,
-            0x4100,
-            "StorageData { ea: 16640, store: false, little: false }",
-        ),
-        (
-            0x9083_0000,
-            0x22,
-            false,
-            PROBLEM,
-            0x4100,
-            "StorageData { ea: 16640, store: true, little: false }",
-        ),
-        (
-            0x8083_0000,
-            0x28,
-            false,
-            PROBLEM,
-            0x4100,
-            "StorageData { ea: 16640, store: false, little: false }",
-        ),
-        // a little-endian page of data; the permission comes first
-        (
-            0x8083_0000,
-            all,
-            false,
-            DATA_SPACE,
-            0x4100,
-            "StorageData { ea: 16640, store: false, little: true }",
-        ),
-        (
-            0x9083_0000,
-            all,
-            false,
-            DATA_SPACE,
-            0x4100,
-            "StorageData { ea: 16640, store: true, little: true }",
-        ),
-        (
-            0x9083_0000,
-            0x11,
-            false,
-            DATA_SPACE,
-            0x4100,
-            "StorageData { ea: 16640, store: true, little: false }",
-        ),
-        // lmw r30,0(r3), lwarx and stwcx.; and stmw r30,0(r3) where no page is
-        (
-            0xBBC3_0000,
-            all,
-            false,
-            0,
-            0x4102,
-            "Align { ea: 16642, store: false }",
-        ),
-        (
-            0x7C80_1828,
-            all,
-            false,
-            0,
-            0x4102,
-            "Align { ea: 16642, store: false }",
-        ),
-        (
-            0x7C80_192D,
-            all,
-            false,
-            0,
-            0x4102,
-            "Align { ea: 16642, store: true }",
-        ),
-        (
-            0xBFC3_0000,
-            all,
-            false,
-            0,
-            0x9002,
-            "Align { ea: 36866, store: true }",
-        ),
-        (0x4400_0002, all, false, 0, 0, "Sc"),
-        (0x4400_0022, all, false, 0, 0, "Hcall"),
-        (0x0000_0000, all, false, 0, 0, "Program(134217728)"),
-        // tw always
-        (0x7FE0_0008, all, false, 0, 0, "Program(33554432)"),
-        (0xC803_0000, all, false, 0, 0, "NoFloat"),
-    ] {
-        let look = OnePage { perms, little };
-        let (hw, core, ground) = run(alloc, &look, word, msr, r3, 0x1234_5678)?;
-        let text = format!(in alloc; "{hw:?}")?;
-        assert_eq!(rt; text.as_str(), answer, "{word:x}");
-        assert_eq!(rt; core.regs().pc(), 0x4000, "{word:x}");
-        assert_eq!(rt; ground.load32(0, 0), word, "{word:x}");
-        assert_eq!(rt; ground.load32(0, 0x3FFC), 0, "{word:x}");
+    for case in &NOT_DONE {
+        let look = OnePage {
+            perms: case.perms,
+            little: case.little,
+        };
+        let (hw, core, ground) = run(rt.alloc(), &look, case.word, case.msr, case.r3, 0x1234_5678)?;
+        assert_eq!(rt; answer_of(&hw), case.answer, "{}", case.text);
+        assert_eq!(rt; core.regs().pc(), 0x4000, "{}", case.text);
+        assert_eq!(rt; ground.load32(0, 0), case.word, "{}", case.text);
+        assert_eq!(rt; ground.load32(0, 0x3FFC), 0, "{}", case.text);
     }
     Ok(())
 }
 
-// What user programs may not do: returns, the machine state, translations, dcbi, a special register of the
-// system, and hypercalls.
+/// What user programs may not do: returns, the machine state, translations, dcbi, a special register of the
+/// system, and hypercalls.
 const PRIVILEGED: [u32; 18] = [
     0x4C00_0064, // rfi
     0x4C00_0066, // rfci
@@ -290,9 +418,12 @@ fn users_are_refused_what_is_privileged(rt: HostRuntime) -> Result<(), Fail> {
         little: false,
     };
     for &word in PRIVILEGED.iter() {
-        let (hw, core, _ground) = run(alloc, &look, word, PROBLEM, 0x4100, 0)?;
-        let text = format!(in alloc; "{hw:?}")?;
-        assert_eq!(rt; text.as_str(), "Program(67108864)", "{word:x}");
+        let (hw, core, _ground) = run(alloc, &look, word, msr::PROBLEM_STATE, 0x4100, 0)?;
+        assert_eq!(rt;
+            answer_of(&hw),
+            Answer::Program(esr::PRIVILEGED),
+            "{word:x}"
+        );
         assert_eq!(rt;
             (core.regs().pc(), core.regs().gpr(3)),
             (0x4000, 0x4100),
@@ -396,7 +527,7 @@ fn stores_and_reservations(rt: HostRuntime) -> Result<(), Fail> {
     Ok(())
 }
 
-// A core about to store under this reservation.
+/// A core about to store under this reservation.
 fn core_with(reserved: Option<u64>) -> Core {
     let mut regs = boot(0x4000, 0, 0);
     regs.set_gpr(3, 0x4044);

@@ -18,7 +18,7 @@ use guest_regs::Regs;
 use insn::Insn;
 use insn_alu::{Access, Form, finish_load, stored};
 
-// Loads the bytes at the places.
+/// Loads the bytes at the places.
 #[tactic(auto, using(crate::proofs::Sizes::short_access, crate::proofs::Sizes::load_finished), unfolding(crate::specs::Step::load_done))]
 fn load(insn: Insn, made: Access, places: Places, regs: &mut Regs, ground: &Ground) -> Hw
     requires transfer { transfer_effect (transfer_of insn.op) insn.word regs.old ≡ Memory made }
@@ -36,7 +36,7 @@ fn load(insn: Insn, made: Access, places: Places, regs: &mut Regs, ground: &Grou
     Hw::Retired(ArrayVec::new())
 }
 
-// What a store stores: as many bytes as it accesses, since there are 32 general registers.
+/// What a store stores: as many bytes as it accesses, since there are 32 general registers.
 #[tactic(auto, using(crate::proofs::Sizes::is_store, crate::proofs::Sizes::stored_whole))]
 fn bytes_to_store(insn: Insn, made: Access, regs: &Regs) -> ArrayVec<u8, 128>
     requires transfer { transfer_effect (transfer_of insn.op) insn.word regs.now ≡ Memory made }
@@ -49,7 +49,7 @@ fn bytes_to_store(insn: Insn, made: Access, regs: &Regs) -> ArrayVec<u8, 128>
     stored(&insn, regs)
 }
 
-// Stores at the places.
+/// Stores at the places.
 #[tactic(auto, using(crate::proofs::Sizes::is_store, crate::proofs::Sizes::store_finished), unfolding(crate::specs::Step::store_done))]
 fn store(insn: Insn, made: Access, places: Places, regs: &mut Regs, ground: &mut Ground) -> Hw
     requires transfer { transfer_effect (transfer_of insn.op) insn.word regs.old ≡ Memory made }
@@ -67,7 +67,7 @@ fn store(insn: Insn, made: Access, places: Places, regs: &mut Regs, ground: &mut
     Hw::Retired(ranges(places))
 }
 
-// Stores there under a reservation, which ends.
+/// Stores there under a reservation, which ends.
 #[tactic(auto, using(crate::proofs::Sizes::is_store, crate::proofs::Sizes::told_finished), unfolding(crate::specs::Step::conditional_done))]
 fn store_conditional(
     insn: Insn,
@@ -97,7 +97,7 @@ fn store_conditional(
     }
 }
 
-// Makes an access.
+/// Makes an access.
 #[tactic(auto, unfolding(crate::specs::Step::accessed, crate::specs::Step::access_done), using(crate::proofs::Sizes::short_access))]
 pub fn transfer<L: Look>(
     look: &L,
@@ -123,7 +123,7 @@ pub fn transfer<L: Look>(
         look,
         ground,
         regs.data_space(),
-        regs.pid() as u16,
+        regs.pid(),
         permission,
         made.ea,
         u32::from(made.len),

@@ -1,3 +1,5 @@
+//! One extent of real memory.
+
 ghost use Rattle.std.specs.Prelude.{◌≡◌, ◌+◌, ◌<◌, ◌≤◌, IfOk, length, drop, replicate};
 ghost use Rattle.ground.specs.Extents.{written};
 

@@ -9,12 +9,16 @@
 mod extent;
 mod law;
 mod memory;
+mod own;
 
 pub use law::{
     lengths_stay, one_byte_is_its_number, other_bytes_stay, other_extents_stay, put_is_read_back,
     store_is_loaded_back,
 };
 pub use memory::Ground;
+pub use own::{
+    regions_are_read_in_their_extents, regions_are_written_in_their_extents, regions_stay,
+};
 
 #[cfg(test)]
 mod tests;

@@ -1,3 +1,5 @@
+//! Real memory as its extents.
+
 ghost use Rattle.std.specs.Prelude.{◌≡◌, ◌≢◌, ◌<◌, IfOk, length, replicate};
 ghost use Rattle.ground.specs.Extents.{extent_at, bytes_at, number_at, after_write, after_store, zero_extents, HasRange, AreSmall};
 

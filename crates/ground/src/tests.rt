@@ -7,7 +7,7 @@ use outside::NoMemory;
 use std::alloc::Global;
 use std::test::Fail;
 
-// Eight bytes, none and five.
+/// Eight bytes, none and five.
 fn three_extents(alloc: Global) -> Result<Ground, NoMemory>
     ensures count { IfOk result (λ memory. length memory ≡ 3) }
     ensures first { IfOk result (λ memory. length (extent_at memory 0) ≡ 8) }
