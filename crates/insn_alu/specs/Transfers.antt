@@ -3,6 +3,7 @@
 use Rattle.std.specs.Prelude.{◌≡◌, ℕ, zero, suc, ◌+◌, ◌-◌, ◌*◌, ◌%◌, ◌^◌, ◌≤◌, Bool, true, false, Option, Some, None, List, [], ◌∷◌, ◌++◌, length, take, drop, replicate, slice_index, if◌then◌else◌}
 use Rattle.std.specs.Bool.{MatchBool}
 use Rattle.std.specs.List.{flat_map}
+use Rattle.std.specs.Option.{option_or}
 use Rattle.std.specs.Int.{w16, w32, cast_signed, cast_unsigned, from_be_bytes, from_le_bytes, to_be_bytes, to_le_bytes}
 use Rattle.insn.specs.declared.instruction.Op.{Op}
 use Rattle.insn.specs.declared.instruction.Op.TheVariants as op
@@ -26,50 +27,54 @@ load addressing kind = Some (record { addressing = addressing; kind = kind; stor
 abbrev store : Addressing → Kind → Option Transfer
 store addressing kind = Some (record { addressing = addressing; kind = kind; store = true })
 
--- the stores, and none for what is neither load nor store
+-- what a load takes from storage, and how its address is found
+unfoldable pub load_of : Op → Option Transfer
+load_of op.Lbz = load Displaced Byte
+load_of op.Lbzx = load Indexed Byte
+load_of op.Lbzu = load DisplacedUpdate Byte
+load_of op.Lbzux = load IndexedUpdate Byte
+load_of op.Lhz = load Displaced Half
+load_of op.Lhzx = load Indexed Half
+load_of op.Lhzu = load DisplacedUpdate Half
+load_of op.Lhzux = load IndexedUpdate Half
+load_of op.Lha = load Displaced SignedHalf
+load_of op.Lhax = load Indexed SignedHalf
+load_of op.Lhau = load DisplacedUpdate SignedHalf
+load_of op.Lhaux = load IndexedUpdate SignedHalf
+load_of op.Lwz = load Displaced Word
+load_of op.Lwzx = load Indexed Word
+load_of op.Lwzu = load DisplacedUpdate Word
+load_of op.Lwzux = load IndexedUpdate Word
+load_of op.Lhbrx = load Indexed ReversedHalf
+load_of op.Lwbrx = load Indexed ReversedWord
+load_of op.Lmw = load Displaced Words
+load_of op.Lwarx = load Indexed Exclusive
+load_of _ = None
+
+-- what a store puts there
 unfoldable pub store_of : Op → Option Transfer
-store_of op.Stw = store Displaced Word
-store_of op.Stwu = store DisplacedUpdate Word
 store_of op.Stb = store Displaced Byte
-store_of op.Stbu = store DisplacedUpdate Byte
-store_of op.Sth = store Displaced Half
-store_of op.Sthu = store DisplacedUpdate Half
-store_of op.Stmw = store Displaced Words
-store_of op.Stwx = store Indexed Word
-store_of op.Stwux = store IndexedUpdate Word
 store_of op.Stbx = store Indexed Byte
+store_of op.Stbu = store DisplacedUpdate Byte
 store_of op.Stbux = store IndexedUpdate Byte
+store_of op.Sth = store Displaced Half
 store_of op.Sthx = store Indexed Half
+store_of op.Sthu = store DisplacedUpdate Half
 store_of op.Sthux = store IndexedUpdate Half
-store_of op.Stwbrx = store Indexed ReversedWord
+store_of op.Stw = store Displaced Word
+store_of op.Stwx = store Indexed Word
+store_of op.Stwu = store DisplacedUpdate Word
+store_of op.Stwux = store IndexedUpdate Word
 store_of op.Sthbrx = store Indexed ReversedHalf
+store_of op.Stwbrx = store Indexed ReversedWord
+store_of op.Stmw = store Displaced Words
 store_of op.Stwcx = store Indexed Exclusive
 store_of op.Dcbz = store Indexed Block
 store_of _ = None
 
--- what an instruction moves between registers and storage, and how its address is found
-unfoldable pub transfer_of : Op → Option Transfer
-transfer_of op.Lwz = load Displaced Word
-transfer_of op.Lwzu = load DisplacedUpdate Word
-transfer_of op.Lbz = load Displaced Byte
-transfer_of op.Lbzu = load DisplacedUpdate Byte
-transfer_of op.Lhz = load Displaced Half
-transfer_of op.Lhzu = load DisplacedUpdate Half
-transfer_of op.Lha = load Displaced SignedHalf
-transfer_of op.Lhau = load DisplacedUpdate SignedHalf
-transfer_of op.Lmw = load Displaced Words
-transfer_of op.Lwzx = load Indexed Word
-transfer_of op.Lwzux = load IndexedUpdate Word
-transfer_of op.Lbzx = load Indexed Byte
-transfer_of op.Lbzux = load IndexedUpdate Byte
-transfer_of op.Lhzx = load Indexed Half
-transfer_of op.Lhzux = load IndexedUpdate Half
-transfer_of op.Lhax = load Indexed SignedHalf
-transfer_of op.Lhaux = load IndexedUpdate SignedHalf
-transfer_of op.Lwbrx = load Indexed ReversedWord
-transfer_of op.Lhbrx = load Indexed ReversedHalf
-transfer_of op.Lwarx = load Indexed Exclusive
-transfer_of other = store_of other
+-- what an instruction moves between registers and storage, if it is one of them
+abbrev pub transfer_of : Op → Option Transfer
+transfer_of operation = option_or (load_of operation) (store_of operation)
 
 -- the effective address (section 1.10.3). An update form takes (RA) also where RA is 0.
 unfoldable pub effective : Addressing → ℕ → Registers → ℕ

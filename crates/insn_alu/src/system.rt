@@ -1,12 +1,12 @@
-//! Traps, special registers, hints, and what is left to the layers above.
+//! Traps, special registers, storage control, loads and stores, and what is left to the system.
 
-ghost use Rattle.std.specs.Prelude.{◌≡◌, ℕ};
-ghost use Rattle.insn_alu.specs.Exec.{invalidate_effect, call_effect, effect_of, special_read_row, special_write_row, time_row, trap_row, system_of, KeepsUnlessDone, TransfersForMemory};
-ghost use Rattle.insn_alu.specs.Transfers.{transfer_of, transfer_effect};
+ghost use Rattle.std.specs.Prelude.{◌≡◌, ℕ, IfSome};
+ghost use Rattle.insn_alu.specs.Exec.{invalidate_effect, call_effect, special_read_row, special_write_row, time_row, trap_row, moves_of, storage_of, privileged_of, transfers_of, answered, KeepsUnlessDone, KeepsUnlessAnswered, HasNoAccess, TransfersForMemory};
 
 use crate::access::access_of;
+use crate::branches::set_fields;
 use crate::effect::Effect;
-use crate::fields::{a_of, b_of, extended_immediate, s_of, set_result};
+use crate::fields::{s_of, set_result};
 use crate::moves::transfer_by;
 use crate::numbers::is_trapped;
 use guest_regs::{ReadAnswer, Regs, WriteAnswer, spr_read, spr_write};
@@ -14,10 +14,10 @@ use insn::{Insn, Op};
 
 /// Traps where TO asks for it, and else goes on.
 #[tactic(auto, unfolding(crate::specs::Exec::trap_row))]
-fn trap(insn: Insn, regs: &mut Regs, one: u32, other: u32) -> Effect
-    ensures executed { trap_row insn.word one other regs.old ≡ record { effect = result; after = regs.new } }
+pub fn trap(insn: Insn, regs: &mut Regs, one: u32, other: u32) -> Effect
+    ensures executed { trap_row insn.word one other regs.old ≡ answered (Some result) regs.new }
     ensures kept { KeepsUnlessDone result regs.old regs.new }
-    ensures transfers { TransfersForMemory result insn.op insn.word regs.old }
+    ensures access { HasNoAccess (Some result) }
 {
     if is_trapped(insn.rt() as u32, one, other) {
         return Effect::Trap;
@@ -29,9 +29,9 @@ fn trap(insn: Insn, regs: &mut Regs, one: u32, other: u32) -> Effect
 /// RT takes a special register.
 #[tactic(auto, unfolding(crate::specs::Exec::special_read_row))]
 fn read_special(insn: Insn, regs: &mut Regs) -> Effect
-    ensures executed { special_read_row insn.word regs.old ≡ record { effect = result; after = regs.new } }
+    ensures executed { special_read_row insn.word regs.old ≡ answered (Some result) regs.new }
     ensures kept { KeepsUnlessDone result regs.old regs.new }
-    ensures transfers { TransfersForMemory result insn.op insn.word regs.old }
+    ensures access { HasNoAccess (Some result) }
 {
     match spr_read(regs, insn.spr()) {
         ReadAnswer::Value(value) => {
@@ -46,9 +46,9 @@ fn read_special(insn: Insn, regs: &mut Regs) -> Effect
 /// A special register takes (RS).
 #[tactic(auto, unfolding(crate::specs::Exec::special_write_row))]
 fn write_special(insn: Insn, regs: &mut Regs) -> Effect
-    ensures executed { special_write_row insn.word regs.old ≡ record { effect = result; after = regs.new } }
+    ensures executed { special_write_row insn.word regs.old ≡ answered (Some result) regs.new }
     ensures kept { KeepsUnlessDone result regs.old regs.new }
-    ensures transfers { TransfersForMemory result insn.op insn.word regs.old }
+    ensures access { HasNoAccess (Some result) }
 {
     let value = s_of(insn, regs);
     match spr_write(regs, insn.spr(), value) {
@@ -64,9 +64,9 @@ fn write_special(insn: Insn, regs: &mut Regs) -> Effect
 /// RT takes a half of the time base.
 #[tactic(auto, unfolding(crate::specs::Exec::time_row))]
 fn read_time(insn: Insn, regs: &mut Regs) -> Effect
-    ensures executed { time_row insn.word regs.old ≡ record { effect = result; after = regs.new } }
+    ensures executed { time_row insn.word regs.old ≡ answered (Some result) regs.new }
     ensures kept { KeepsUnlessDone result regs.old regs.new }
-    ensures transfers { TransfersForMemory result insn.op insn.word regs.old }
+    ensures access { HasNoAccess (Some result) }
 {
     let value = match insn.spr() {
         268 => (regs.time() % 0x1_0000_0000) as u32,
@@ -77,38 +77,53 @@ fn read_time(insn: Insn, regs: &mut Regs) -> Effect
     Effect::Done
 }
 
-#[tactic(auto, unfolding(crate::specs::Exec::system_of))]
-pub fn exec_system(insn: Insn, regs: &mut Regs) -> Effect
-    ensures executed { system_of insn.op insn.word regs.old ≡ record { effect = result; after = regs.new } }
-    ensures kept { KeepsUnlessDone result regs.old regs.new }
-    ensures transfers { TransfersForMemory result insn.op insn.word regs.old }
+/// Moves of system registers, and floating point (Power ISA 2.06, Book I, section 3.3.15 and chapter 4).
+#[tactic(auto, unfolding(crate::specs::Exec::moves_of))]
+pub fn exec_moves(insn: Insn, regs: &mut Regs) -> Option<Effect>
+    ensures executed { moves_of insn.op insn.word regs.old ≡ answered result regs.new }
+    ensures kept { KeepsUnlessAnswered result regs.old regs.new }
+    ensures access { HasNoAccess result }
 {
     match insn.op {
-        Op::Twi => trap(insn, regs, a_of(insn, regs), extended_immediate(insn)),
-        Op::Tw => trap(insn, regs, a_of(insn, regs), b_of(insn, regs)),
-        Op::Mfspr => read_special(insn, regs),
-        Op::Mtspr => write_special(insn, regs),
-        Op::Mftb => read_time(insn, regs),
-        Op::Isync
+        Op::Mtspr => return Some(write_special(insn, regs)),
+        Op::Mfspr => return Some(read_special(insn, regs)),
+        Op::Mtcrf => set_fields(insn, regs),
+        Op::Mfcr => set_result(regs, insn.rt(), regs.cr()),
+        Op::FloatingPoint => return Some(Effect::NoFloat),
+        _ => return None,
+    }
+    Some(Effect::Done)
+}
+
+/// Storage control, synchronization and the time base (Power ISA 2.06, Book II, chapters 4 and 5).
+#[tactic(auto, unfolding(crate::specs::Exec::storage_of))]
+pub fn exec_storage(insn: Insn, regs: &mut Regs) -> Option<Effect>
+    ensures executed { storage_of insn.op insn.word regs.old ≡ answered result regs.new }
+    ensures kept { KeepsUnlessAnswered result regs.old regs.new }
+    ensures access { HasNoAccess result }
+{
+    match insn.op {
+        Op::Icbi
         | Op::Icbt
+        | Op::Dcba
+        | Op::Dcbt
+        | Op::Dcbtst
         | Op::Dcbst
         | Op::Dcbf
-        | Op::Dcbtst
-        | Op::Dcbt
+        | Op::Isync
         | Op::Sync
-        | Op::Dcba
-        | Op::Mbar
-        | Op::Icbi => {
-            regs.advance();
-            Effect::Done
-        }
-        _ => effect_by(insn, regs),
+        | Op::Mbar => regs.advance(),
+        Op::Wait => return Some(Effect::Wait),
+        Op::Mftb => return Some(read_time(insn, regs)),
+        _ => return None,
     }
+    Some(Effect::Done)
 }
 
 /// A call of the hypervisor, which only the system may make.
 fn call(regs: &Regs) -> Effect
-    ensures { result ≡ call_effect regs.now }
+    ensures effect { result ≡ call_effect regs.now }
+    ensures access { HasNoAccess (Some result) }
 {
     if regs.is_user() {
         Effect::Priv
@@ -119,7 +134,8 @@ fn call(regs: &Regs) -> Effect
 
 /// The invalidation of translations, which has no T of 2.
 fn invalidate(insn: Insn, regs: &Regs) -> Effect
-    ensures { result ≡ invalidate_effect insn.word regs.now }
+    ensures effect { result ≡ invalidate_effect insn.word regs.now }
+    ensures access { HasNoAccess (Some result) }
 {
     if insn.invalidate_kind() == 2 && !regs.is_user() {
         Effect::Illegal
@@ -128,43 +144,37 @@ fn invalidate(insn: Insn, regs: &Regs) -> Effect
     }
 }
 
-/// What an instruction asks for that leaves the registers to the layers above.
-#[tactic(auto, unfolding(crate::specs::Exec::effect_of))]
-fn effect_by(insn: Insn, regs: &Regs) -> Effect
-    ensures effect { result ≡ effect_of insn.op insn.word regs.now }
-    ensures transfers { TransfersForMemory result insn.op insn.word regs.now }
+/// What only the system may do (Power ISA 2.06, Book III-E, chapters 4 to 6).
+#[tactic(auto, unfolding(crate::specs::Exec::privileged_of))]
+pub fn exec_privileged(insn: Insn, regs: &Regs) -> Option<Effect>
+    ensures executed { privileged_of insn.op insn.word regs.now ≡ answered result regs.now }
+    ensures access { HasNoAccess result }
 {
     match insn.op {
-        Op::Sc => Effect::Syscall,
-        Op::Hypercall => call(regs),
-        Op::FloatingPoint => Effect::NoFloat,
-        Op::Wait => Effect::Wait,
-        Op::Illegal => Effect::Illegal,
-        Op::Tlbilx => invalidate(insn, regs),
+        Op::Hypercall => Some(call(regs)),
+        Op::Tlbilx => Some(invalidate(insn, regs)),
         Op::Rfi
         | Op::Rfci
         | Op::Rfmci
-        | Op::Mfmsr
         | Op::Mtmsr
+        | Op::Mfmsr
         | Op::Wrtee
         | Op::Wrteei
+        | Op::Dcbi
         | Op::Tlbivax
         | Op::Tlbsx
         | Op::Tlbre
-        | Op::Tlbwe
         | Op::Tlbsync
-        | Op::Dcbi => Effect::Priv,
-        _ => transfer(insn, regs),
+        | Op::Tlbwe => Some(Effect::Priv),
+        _ => None,
     }
 }
 
-/// The access of a load or store.
-fn transfer(insn: Insn, regs: &Regs) -> Effect
-    ensures effect { result ≡ transfer_effect (transfer_of insn.op) insn.word regs.now }
-    ensures transfers { TransfersForMemory result insn.op insn.word regs.now }
+/// Loads and stores: the access that they make.
+pub fn exec_transfers(insn: Insn, regs: &Regs) -> Option<Effect>
+    ensures executed { transfers_of insn.op insn.word regs.now ≡ answered result regs.now }
+    ensures transfers { IfSome result (λ effect. TransfersForMemory effect insn.op insn.word regs.now) }
 {
-    match transfer_by(insn.op) {
-        Some(transfer) => Effect::Memory(access_of(transfer, insn, regs)),
-        None => Effect::Illegal,
-    }
+    let transfer = transfer_by(insn.op)?;
+    Some(Effect::Memory(access_of(transfer, insn, regs)))
 }
