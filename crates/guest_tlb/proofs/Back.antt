@@ -14,7 +14,7 @@ use Rattle.guest_tlb.specs.Kept.{IsKept, AreApart}
 use Rattle.guest_tlb.specs.Laws.{WritesBackKeep}
 use Rattle.guest_tlb.proofs.Passes.{length-invalidated, invalidated_at}
 use Rattle.guest_tlb.proofs.Found.{reported_is_named}
-use Rattle.guest_tlb.proofs.Upkeep.{after_write_there}
+use Rattle.guest_tlb.proofs.Upkeep.{placed, after_write_there}
 
 -- what TLB0 has it takes as it is
 small_same : (entry : Entry) → entry.iprot ≡ false → entry.tsize ≡ 1 → tlb0_form entry ≡ entry
@@ -23,9 +23,6 @@ small_same entry h k = same_entry (tlb0_form entry) entry refl (sym h) refl refl
 -- and so does TLB1
 aligned_same : (size address : ℕ) → address % size ≡ 0 → aligned size address ≡ address
 aligned_same size address h = omega (arith, h)
-
-placed : Entry → Entry
-placed entry = record entry { epn = aligned (page_size entry.tsize) entry.epn; rpn = aligned (page_size entry.tsize) entry.rpn }
 
 placed_same : (entry : Entry) → IsSound entry → placed entry ≡ entry
 unfolding placed

@@ -110,7 +110,7 @@ small_sound entry h = record {
 }
 
 -- a translation of TLB1, of a size that it has
-placed : Entry → Entry
+unfoldable pub placed : Entry → Entry
 placed entry = record entry { epn = aligned (page_size entry.tsize) entry.epn; rpn = aligned (page_size entry.tsize) entry.rpn }
 
 size_positive : (t : ℕ) → 0 < 4 ^ t * 2 ^ 10

@@ -35,7 +35,7 @@ pub same_entry : (a b : Entry) → a.valid ≡ b.valid → a.iprot ≡ b.iprot �
 same_entry a b = same_fields a.valid b.valid a.iprot b.iprot a.tid b.tid a.ts b.ts a.tsize b.tsize a.epn b.epn a.wimge b.wimge a.rpn b.rpn a.perms b.perms
 
 -- a bit is read as it was written
-bit_small : (b : Bool) → bit b < 2
+pub bit_small : (b : Bool) → bit b < 2
 bit_small true = omega arith
 bit_small false = omega arith
 

@@ -1,7 +1,7 @@
 -- Clocks over many steps.
 use Rattle.std.proofs.Common.{◌≡◌, ℕ, zero, suc, ◌+◌, ◌-◌, ◌%◌, ◌^◌, ◌<◌, ◌==◌, Bool, true, false, if◌then◌else◌, bit_or, refl, ◌∙◌, ap, arith}
 use Rattle.guest_regs.specs.Registers.{Registers}
-use Rattle.trap_emulate.specs.State.{is_set}
+use Rattle.guest_regs.specs.State.{is_set}
 use Rattle.trap_emulate.specs.Clock.{ticked, expired, time_passed, auto_reload, decrementer_status}
 use Rattle.trap_emulate.specs.Laws.{after_steps, TimeCountsSteps, FallsInSilence, ExpiresOnTime, RestsAtZero}
 

@@ -1,7 +1,7 @@
 -- The timers of a core as one step passes (Power ISA 2.06, Book III-E, chapter 9). A step is the unit of time.
 use Rattle.std.specs.Prelude.{ℕ, ◌+◌, ◌-◌, ◌%◌, ◌^◌, ◌==◌, Bool, ◌&&◌, bit_or, if◌then◌else◌}
 use Rattle.guest_regs.specs.Registers.{Registers}
-use Rattle.trap_emulate.specs.State.{is_set}
+use Rattle.guest_regs.specs.State.{is_set}
 
 -- DIS of the timer status register: the decrementer has expired.
 abbrev pub decrementer_status : ℕ

@@ -1,14 +1,18 @@
--- What the definitions of this crate mean over whole runs: clocks keep time, and a return undoes an entry.
-use Rattle.std.specs.Prelude.{◌≡◌, ℕ, zero, suc, ◌+◌, ◌-◌, ◌%◌, ◌^◌, ◌<◌, bit_or, if◌then◌else◌}
+-- What the definitions of this crate mean together and over whole runs: clocks keep time, a return undoes an entry, and what a core
+-- keeps stays.
+use Rattle.std.specs.Prelude.{◌≡◌, ℕ, zero, suc, ◌+◌, ◌-◌, ◌%◌, ◌^◌, ◌<◌, List, bit_or, if◌then◌else◌}
 use Rattle.insn.specs.declared.instruction.Op.{Op}
 use Rattle.insn.specs.declared.instruction.Op.TheVariants as op
+use Rattle.guest_regs.specs.State.{is_set}
 use Rattle.guest_regs.specs.Registers.{Registers, machine_state}
+use Rattle.guest_regs.specs.Kept.{IsWord, AreKept as RegistersAreKept}
+use Rattle.mas.specs.declared.entry.Entry.{Entry}
+use Rattle.guest_tlb.specs.Kept.{AreKept as SlotsAreKept}
 use Rattle.trap_emulate.specs.declared.cause.Cause.{Cause}
-use Rattle.trap_emulate.specs.declared.cause.Cause.TheVariants.{MachineCheck, Syscall}
-use Rattle.trap_emulate.specs.State.{is_set}
+use Rattle.trap_emulate.specs.declared.cause.Cause.TheVariants.{MachineCheck, StorageData, StorageInsn, Align, Program, Syscall, MissData, MissInsn}
 use Rattle.trap_emulate.specs.Clock.{ticked, auto_reload, decrementer_status}
 use Rattle.trap_emulate.specs.Entry.{delivered, next_instruction}
-use Rattle.trap_emulate.specs.Privileged.{state_after}
+use Rattle.trap_emulate.specs.Privileged.{state_after, emulated}
 
 -- the registers when so many steps have passed that changed nothing else
 abbrev pub after_steps : ℕ → Registers → Registers
@@ -21,7 +25,7 @@ TimeCountsSteps =
     (n : ℕ) (registers : Registers) → registers.time < 2 ^ 64 →
     (after_steps n registers).time ≡ (registers.time + n) % 2 ^ 64
 
--- A decrementer tells of nothing before its last step,
+-- A decrementer leaves its status before its last step,
 abbrev pub FallsInSilence : Type 0
 FallsInSilence =
     (n : ℕ) (registers : Registers) → n < registers.dec →
@@ -49,7 +53,7 @@ abbrev pub resumption : Cause → Registers → ℕ
 resumption Syscall registers = next_instruction registers
 resumption _ registers = registers.pc
 
--- the registers without those that interrupts save and tell in
+-- the registers without those that interrupts save and report in
 abbrev pub apart_from_interrupts : Registers → Registers
 apart_from_interrupts registers = record registers {
   srr0 = 0;
@@ -72,3 +76,33 @@ ReturnsGoBack =
     (cause : Cause) (word nv : ℕ) (registers : Registers) → registers.pc % 4 ≡ 0 → machine_state registers.msr ≡ registers.msr →
     let back = state_after (return_from cause) word (delivered nv cause registers) in
     apart_from_interrupts back ≡ apart_from_interrupts (record registers { pc = resumption cause registers })
+
+-- The next-victim counter stays a way of TLB0 through every instruction. An interrupt has no counter to change.
+abbrev pub EmulationKeepsVictim : Type 0
+EmulationKeepsVictim =
+    (operation : Op) (word nv : ℕ) (registers : Registers) (slots : List Entry) → nv < 4 → (emulated operation word registers slots nv).nv < 4
+
+-- What registers keep stays through every instruction,
+abbrev pub EmulationKeepsRegisters : Type 0
+EmulationKeepsRegisters =
+    (operation : Op) (word nv : ℕ) (registers : Registers) (slots : List Entry) → nv < 4 → SlotsAreKept slots → RegistersAreKept registers →
+    RegistersAreKept (emulated operation word registers slots nv).registers
+
+-- the address and the syndrome of a cause are of 32 bits
+abbrev pub CauseFits : Cause → Type 0
+CauseFits (StorageData address syndrome) = IsWord address × IsWord syndrome
+CauseFits (StorageInsn syndrome) = IsWord syndrome
+CauseFits (Align address syndrome) = IsWord address × IsWord syndrome
+CauseFits (Program syndrome) = IsWord syndrome
+CauseFits (MissData address store) = IsWord address
+CauseFits (MissInsn address) = IsWord address
+CauseFits _ = Unit {0}
+
+-- through the entry of every interrupt,
+abbrev pub DeliveryKeepsRegisters : Type 0
+DeliveryKeepsRegisters =
+    (cause : Cause) (nv : ℕ) (registers : Registers) → nv < 4 → CauseFits cause → RegistersAreKept registers → RegistersAreKept (delivered nv cause registers)
+
+-- and through one step's time.
+abbrev pub TimeKeepsRegisters : Type 0
+TimeKeepsRegisters = (registers : Registers) → RegistersAreKept registers → RegistersAreKept (ticked registers)

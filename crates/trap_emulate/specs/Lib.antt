@@ -1,4 +1,3 @@
-pub mod State
 pub mod Clock
 pub mod Tlb
 pub mod Entry

@@ -1,3 +1,5 @@
+//! Why a core enters an interrupt.
+
 /// Why a core enters an interrupt (Power ISA 2.06, Book III-E, chapter 7).
 ///
 /// `ea` is an effective address: of the first byte that a load or store has in the page, or with `Align` at all, which DEAR

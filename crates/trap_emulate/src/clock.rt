@@ -3,8 +3,16 @@
 ghost use Rattle.std.specs.Prelude.{◌≡◌, ℕ};
 ghost use Rattle.trap_emulate.specs.Clock.{expired, is_decrementer_pending, ticked};
 
-use crate::state::{AUTO_RELOAD, DECREMENTER_ENABLE, DECREMENTER_STATUS, has};
-use guest_regs::Regs;
+use guest_regs::{Regs, is_set};
+
+/// DIS of the TSR: the decrementer has expired.
+const DECREMENTER_STATUS: u32 = 0x0800_0000;
+
+/// DIE of the TCR: the decrementer's interrupt is enabled.
+const DECREMENTER_ENABLE: u32 = 0x0400_0000;
+
+/// ARE of the TCR: the decrementer is reloaded when it expires.
+const AUTO_RELOAD: u32 = 0x0040_0000;
 
 /// Lets one step's time pass: the time base counts it, and the decrementer falls (Power ISA 2.06, Book III-E, chapter 9).
 #[tactic(auto, unfolding(crate::specs::Clock::ticked))]
@@ -24,15 +32,15 @@ pub fn tick(regs: &mut Regs)
 pub fn is_decrementer_pending(regs: &Regs) -> bool
     ensures { result ≡ is_decrementer_pending regs.now }
 {
-    has(regs.tsr(), DECREMENTER_STATUS) && has(regs.tcr(), DECREMENTER_ENABLE)
+    is_set(regs.tsr(), DECREMENTER_STATUS) && is_set(regs.tcr(), DECREMENTER_ENABLE)
 }
 
-/// The decrementer reaches its end: it tells so, and begins again where that is asked for.
+/// The decrementer reaches its end: it sets its status, and begins again where that is asked for.
 #[tactic(auto, unfolding(crate::specs::Clock::expired))]
 fn expire(regs: &mut Regs)
     ensures { regs.new ≡ expired regs.old }
 {
-    let next = if has(regs.tcr(), AUTO_RELOAD) {
+    let next = if is_set(regs.tcr(), AUTO_RELOAD) {
         regs.decar()
     } else {
         0

@@ -1,21 +1,22 @@
 //! The entry of interrupts.
 
 ghost use Rattle.std.specs.Prelude.{◌≡◌, ℕ, ◌<◌, ◌≤◌, ◌%◌, IsTrue};
-ghost use Rattle.trap_emulate.specs.Entry.{delivered, handler, interrupted, checked, about, store_syndrome, are_interrupts_enabled, may_enter};
+ghost use Rattle.trap_emulate.specs.Entry.{delivered, handler, interrupted, checked, with_dear_esr, are_interrupts_enabled, may_enter};
 ghost use Rattle.guest_regs.specs.Registers.{data_space};
+ghost use Rattle.guest_regs.specs.State.{store_syndrome};
 ghost use Rattle.trap_emulate.specs.Tlb.{missing};
 
 use crate::cause::Cause;
 use crate::mmu::Mmu;
-use crate::state::{CRITICAL_ENABLE, EXTERNAL_ENABLE, MACHINE_CHECK_ENABLE, STORE, has};
 use crate::tlb::miss;
-use guest_regs::Regs;
+use guest_regs::msr::{CRITICAL_ENABLE, EXTERNAL_ENABLE, MACHINE_CHECK_ENABLE};
+use guest_regs::{Regs, is_set, store_syndrome};
 
 /// Whether MSR[EE] lets external and decrementer interrupts be entered.
 pub fn are_interrupts_enabled(regs: &Regs) -> bool
     ensures { result ≡ are_interrupts_enabled regs.now }
 {
-    has(regs.msr(), EXTERNAL_ENABLE)
+    is_set(regs.msr(), EXTERNAL_ENABLE)
 }
 
 /// Whether a core can enter the interrupt of a cause: a machine check needs MSR[ME], and nothing else needs anything.
@@ -23,21 +24,13 @@ pub fn may_enter(regs: &Regs, cause: Cause) -> bool
     ensures { result ≡ may_enter cause regs.now }
 {
     match cause {
-        Cause::MachineCheck => has(regs.msr(), MACHINE_CHECK_ENABLE),
+        Cause::MachineCheck => is_set(regs.msr(), MACHINE_CHECK_ENABLE),
         _ => true,
     }
 }
 
-/// What the ESR tells of a store, ST, and of a load, nothing (Power ISA 2.06, Book III-E, chapter 7).
-pub fn store_syndrome(store: bool) -> u32
-    ensures value { result ≡ store_syndrome store }
-    ensures bound { result ≤ 0x0080_0000 }
-{
-    if store { STORE } else { 0 }
-}
-
-/// Enters the interrupt of a cause, which `may_enter` allows (Power ISA 2.06, Book III-E, chapter 7). A TLB error tells in the
-/// MAS registers what missed; translations and the next-victim counter stay.
+/// Enters the interrupt of a cause, which `may_enter` allows (Power ISA 2.06, Book III-E, chapter 7). A TLB error reports in
+/// the MAS registers what missed; translations and the next-victim counter stay.
 #[tactic(auto, unfolding(crate::specs::Entry::delivered))]
 pub fn deliver(regs: &mut Regs, mmu: &mut Mmu, cause: Cause)
     requires { IsTrue (may_enter cause regs.old) }
@@ -47,13 +40,13 @@ pub fn deliver(regs: &mut Regs, mmu: &mut Mmu, cause: Cause)
     let here = regs.pc();
     match cause {
         Cause::MachineCheck => check(regs),
-        Cause::StorageData { ea, esr } => explain(regs, 2, ea, esr),
+        Cause::StorageData { ea, esr } => interrupt_with_dear_esr(regs, 2, ea, esr),
         Cause::StorageInsn { esr } => {
             regs.set_esr(esr);
             interrupt(regs, 3, here);
         }
         Cause::External => interrupt(regs, 4, here),
-        Cause::Align { ea, esr } => explain(regs, 5, ea, esr),
+        Cause::Align { ea, esr } => interrupt_with_dear_esr(regs, 5, ea, esr),
         Cause::Program { esr } => {
             regs.set_esr(esr);
             interrupt(regs, 6, here);
@@ -69,10 +62,10 @@ pub fn deliver(regs: &mut Regs, mmu: &mut Mmu, cause: Cause)
     }
 }
 
-/// Enters an interrupt that tells an address and what was wrong.
-fn explain(regs: &mut Regs, kind: u8, ea: u32, esr: u32)
+/// Enters an interrupt for which DEAR takes an address, and ESR what was wrong.
+fn interrupt_with_dear_esr(regs: &mut Regs, kind: u8, ea: u32, esr: u32)
     requires { kind < 16 }
-    ensures { regs.new ≡ interrupted kind regs.old.pc (about ea esr regs.old) }
+    ensures { regs.new ≡ interrupted kind regs.old.pc (with_dear_esr ea esr regs.old) }
 {
     regs.set_dear(ea);
     regs.set_esr(esr);
@@ -83,8 +76,8 @@ fn explain(regs: &mut Regs, kind: u8, ea: u32, esr: u32)
 /// Enters the TLB error of a load or store.
 #[tactic(auto, unfolding(crate::specs::Tlb::missing, crate::specs::Tlb::with_mas))]
 fn miss_data(regs: &mut Regs, mmu: &Mmu, ea: u32, store: bool)
-    ensures { let told = missing mmu.now.nv (data_space regs.old) ea (about ea (store_syndrome store) regs.old) in
-        regs.new ≡ interrupted 13 regs.old.pc told }
+    ensures { let missed = missing mmu.now.nv (data_space regs.old) ea (with_dear_esr ea (store_syndrome store) regs.old) in
+        regs.new ≡ interrupted 13 regs.old.pc missed }
 {
     let here = regs.pc();
     regs.set_dear(ea);

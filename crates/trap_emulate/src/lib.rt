@@ -4,8 +4,8 @@
 //! `guest_tlb` for translations, and on the kit's `arrayvec`; its tests, on `outside` for the want of memory. `tick` meets
 //! `specs/Clock.antt`, the time base and the decrementer of one step; `deliver` meets `specs/Entry.antt`, the entry
 //! of each interrupt; `emulate` meets `specs/Privileged.antt`, the privileged instructions, of which
-//! `specs/Tlb.antt` has those on translations. `specs/State.antt` names the bits of the machine state, and `specs/Laws.antt`
-//! says what the definitions mean over whole runs.
+//! `specs/Tlb.antt` has those on translations. `specs/Laws.antt` says what the definitions mean over whole runs, and what
+//! stays through them.
 #![tactic(auto)]
 
 mod cause;
@@ -14,13 +14,12 @@ mod entry;
 mod laws;
 mod mmu;
 mod privileged;
-mod state;
 mod tlb;
 
 pub use cause::Cause;
 pub use clock::{is_decrementer_pending, tick};
-pub use entry::{are_interrupts_enabled, deliver, may_enter, store_syndrome};
-pub use laws::{clocks_keep_time, returns_go_back};
+pub use entry::{are_interrupts_enabled, deliver, may_enter};
+pub use laws::{changes_keep_the_registers, clocks_keep_time, returns_go_back, victims_are_ways};
 pub use mmu::Mmu;
 pub use privileged::emulate;
 

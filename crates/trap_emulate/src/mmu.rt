@@ -1,3 +1,7 @@
+//! What a core translates addresses by.
+
+ghost use Rattle.std.specs.Prelude.{◌<◌};
+
 use guest_tlb::GuestTlb;
 
 /// What a core translates addresses by: its translations, and the way of TLB0 that the next miss is to replace
@@ -8,4 +12,5 @@ pub struct Mmu {
     pub tlb: GuestTlb,
     /// The next-victim counter, 0 to 3.
     pub nv: u8,
+    ghost nv_in_range: { nv < 4 },
 }

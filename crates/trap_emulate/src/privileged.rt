@@ -4,19 +4,17 @@ ghost use Rattle.std.specs.Prelude.{◌≡◌, ℕ};
 ghost use Rattle.trap_emulate.specs.Privileged.{emulated, state_after, returned, with_external_enable};
 
 use crate::mmu::Mmu;
-use crate::state::{EXTERNAL_ENABLE, has};
-use crate::tlb::{
-    invalidate, invalidate_local, operand_address_of, read_tlb, search_tlb, write_tlb,
-};
+use crate::tlb::{invalidate, invalidate_local, read_tlb, search_tlb, write_tlb};
 use arrayvec::ArrayVec;
-use guest_regs::Regs;
+use guest_regs::msr::EXTERNAL_ENABLE;
+use guest_regs::{Regs, is_set};
 use guest_tlb::Dead;
 use insn::{Insn, Op};
 
 /// Does a privileged instruction for the system, for which MSR[PR] is clear: the returns from
 /// interrupts, `mfmsr`, `mtmsr`, `wrtee` and `wrteei` (Power ISA 2.06, Book III-E, chapters 4 and 5), `tlbwe`, `tlbre`,
 /// `tlbsx`, `tlbilx` and `tlbivax` (chapter 6), and `tlbsync` and `dcbi`, which have no effect here but to go on.
-/// Answers the slots whose translations it wrote or ended, in rising order.
+/// Answers the slots whose translations it overwrote or invalidated, in rising order.
 ///
 /// `insn` is what `insn::decode` gives of its word. `tlbilx` with T of 2 is illegal and doesn't come here; it and every
 /// other instruction leave all as it is.
@@ -32,11 +30,11 @@ pub fn emulate(insn: &Insn, regs: &mut Regs, mmu: &mut Mmu) -> Dead
             ArrayVec::new()
         }
         Op::Tlbsx => {
-            search_tlb(operand_address_of(insn, regs), regs, mmu);
+            search_tlb(regs.indexed_address(insn.ra(), insn.rb()), regs, mmu);
             ArrayVec::new()
         }
         Op::Tlbilx => invalidate_local(insn, regs, mmu),
-        Op::Tlbivax => invalidate(operand_address_of(insn, regs), regs, mmu),
+        Op::Tlbivax => invalidate(regs.indexed_address(insn.ra(), insn.rb()), regs, mmu),
         _ => {
             change_state(insn, regs);
             ArrayVec::new()
@@ -49,7 +47,7 @@ pub fn emulate(insn: &Insn, regs: &mut Regs, mmu: &mut Mmu) -> Dead
 fn change_state(insn: &Insn, regs: &mut Regs)
     ensures { regs.new ≡ state_after insn.now.op insn.now.word regs.old }
 {
-    let register = insn.rt() as u8;
+    let register = insn.rt();
     match insn.op {
         Op::Rfi => return_to(regs, regs.srr0(), regs.srr1()),
         Op::Rfci => return_to(regs, regs.csrr0(), regs.csrr1()),
@@ -63,7 +61,7 @@ fn change_state(insn: &Insn, regs: &mut Regs)
             regs.advance();
         }
         Op::Wrtee => {
-            enable_external(regs, has(regs.gpr(register), EXTERNAL_ENABLE));
+            enable_external(regs, is_set(regs.gpr(register), EXTERNAL_ENABLE));
             regs.advance();
         }
         Op::Wrteei => {

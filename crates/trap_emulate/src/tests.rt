@@ -1,3 +1,7 @@
+//! Values that were worked out by hand.
+
+ghost use Rattle.std.specs.Prelude.{◌<◌};
+
 use super::*;
 use guest_regs::{Regs, boot};
 use guest_tlb::GuestTlb;
@@ -44,7 +48,7 @@ const STEPS: [(u64, u32, u32, u32, u32, u64, u32, u32); 14] = [
 
 #[test]
 fn a_step_passes_time(rt: HostRuntime) {
-    for &(time, dec, decar, tcr, tsr, later, left, told) in STEPS.iter() {
+    for &(time, dec, decar, tcr, tsr, later, left, status) in STEPS.iter() {
         let mut regs = boot(0x100, 0x8000, 2);
         regs.set_time(time);
         regs.set_dec(dec);
@@ -54,7 +58,7 @@ fn a_step_passes_time(rt: HostRuntime) {
         tick(&mut regs);
         assert_eq!(rt;
             (regs.time(), regs.dec(), regs.tsr()),
-            (later, left, told),
+            (later, left, status),
             "{time} {dec} {tcr:x}"
         );
         assert_eq!(rt; (regs.decar(), regs.tcr(), regs.pc()), (decar, tcr, 0x100));
@@ -67,7 +71,7 @@ fn a_decrementer_is_reloaded_again_and_again(rt: HostRuntime) {
     regs.set_dec(2);
     regs.set_decar(3);
     regs.set_tcr(0x0040_0000);
-    for &(left, told) in [
+    for &(left, expired) in [
         (1, false),
         (3, true),
         (2, false),
@@ -79,7 +83,7 @@ fn a_decrementer_is_reloaded_again_and_again(rt: HostRuntime) {
     {
         regs.set_tsr(0);
         tick(&mut regs);
-        assert_eq!(rt; (regs.dec(), regs.tsr() == 0x0800_0000), (left, told));
+        assert_eq!(rt; (regs.dec(), regs.tsr() == 0x0800_0000), (left, expired));
     }
     assert_eq!(rt; regs.time(), 6);
 }
@@ -174,7 +178,9 @@ fn core_at(pc: u32, state: u32) -> Regs {
 }
 
 /// Translations after a reset, with a next victim.
-fn mmu_with(alloc: Global, nv: u8) -> Result<Mmu, NoMemory> {
+fn mmu_with(alloc: Global, nv: u8) -> Result<Mmu, NoMemory>
+    requires { nv < 4 }
+{
     Ok(Mmu {
         tlb: GuestTlb::new(alloc)?,
         nv,
@@ -359,8 +365,10 @@ fn privileged_rows(rt: HostRuntime) -> Result<(), Fail> {
     Ok(())
 }
 
+/// tlbwe
 const TLBWE: u32 = 0x7C00_07A4;
 
+/// tlbre
 const TLBRE: u32 = 0x7C00_0764;
 
 /// tlbsx 0,r3
@@ -378,6 +386,7 @@ fn set_all(regs: &mut Regs, values: [u32; 7]) {
     regs.set_mas7(m7);
 }
 
+/// MAS0 to 4 and MAS6 and 7 of a core.
 fn all_of(regs: &Regs) -> [u32; 7] {
     [
         regs.mas0(),
@@ -402,7 +411,7 @@ const PAGE: [u32; 7] = [
 ];
 
 /// Instructions with (r3) and the MAS registers before, and the MAS registers after.
-const TOLD: [(u32, u32, [u32; 7], [u32; 7]); 6] = [
+const REPORTS: [(u32, u32, [u32; 7], [u32; 7]); 8] = [
     // the slot is read as TLB1 keeps it, and the other bits of MAS0 stay
     (
         TLBRE,
@@ -424,6 +433,19 @@ const TOLD: [(u32, u32, [u32; 7], [u32; 7]); 6] = [
         0,
         [0x2005_0003, 1, 2, 3, 4, 6, 7],
         [0x2005_0002, 0, 0, 0, 4, 6, 0],
+    ),
+    // slots that were never written, of TLB0 and of TLB1
+    (
+        TLBRE,
+        0,
+        [0x0003_0001, 1, 0x0400_5000, 3, 4, 6, 7],
+        [0x0003_0002, 0x0000_0100, 0, 0, 4, 6, 0],
+    ),
+    (
+        TLBRE,
+        0,
+        [0x1006_0001, 1, 0x0400_5000, 3, 4, 6, 7],
+        [0x1006_0002, 0, 0, 0, 4, 6, 0],
     ),
     // found at the last byte of its page
     (
@@ -486,8 +508,8 @@ const TOLD: [(u32, u32, [u32; 7], [u32; 7]); 6] = [
 ];
 
 #[test]
-fn reads_and_searches_tell_in_the_registers(rt: HostRuntime) -> Result<(), Fail> {
-    for &(word, r3, before, after) in TOLD.iter() {
+fn reads_and_searches_report_in_the_registers(rt: HostRuntime) -> Result<(), Fail> {
+    for &(word, r3, before, after) in REPORTS.iter() {
         let mut mmu = mmu_with(rt.alloc(), 2)?;
         let mut regs = core_at(0x2000, 0);
         set_all(&mut regs, PAGE);
@@ -566,7 +588,7 @@ fn writes_answer_their_slots(rt: HostRuntime) -> Result<(), Fail> {
 }
 
 #[test]
-fn tlb_errors_tell_in_the_registers(rt: HostRuntime) -> Result<(), Fail> {
+fn tlb_errors_report_in_the_registers(rt: HostRuntime) -> Result<(), Fail> {
     let mut mmu = mmu_with(rt.alloc(), 3)?;
     let mut regs = core_at(0x2000, 0x1000_0010);
     regs.set_pid(9);

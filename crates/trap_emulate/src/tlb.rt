@@ -2,18 +2,16 @@
 
 ghost use Rattle.std.specs.Prelude.{◌≡◌, ℕ, ◌<◌};
 ghost use Rattle.mas.specs.Fields.{sas_bit, spid_field};
-ghost use Rattle.mas.specs.Translation.{told, missed};
+ghost use Rattle.mas.specs.Translation.{reporting, missed};
 ghost use Rattle.guest_tlb.specs.Slots.{entry_at, named_slot, naming, search_of};
-ghost use Rattle.trap_emulate.specs.Tlb.{mas_of, with_mas, operand_address, next_victim, told_of, telling_next, not_found, found_by, missing, tlb_write, tlb_read, tlb_search, tlb_invalidate_local, tlb_invalidate};
+ghost use Rattle.trap_emulate.specs.Tlb.{mas_of, with_mas, next_victim, reporting_slot, reporting_next, not_found, reporting_search, missing, tlb_write, tlb_read, tlb_search, tlb_invalidate_local, tlb_invalidate};
 
 use crate::mmu::Mmu;
 use arrayvec::ArrayVec;
 use guest_regs::Regs;
 use guest_tlb::{Dead, WAYS, name_slot, slot_of};
 use insn::Insn;
-use mas::{
-    Mas, miss_mas, next_victim, search_pid, search_space, tlb_select, to_mas, with_next_victim,
-};
+use mas::{Mas, miss_mas, to_mas};
 
 /// V of MAS1.
 const VALID: u32 = 0x8000_0000;
@@ -54,23 +52,14 @@ fn set_mas(regs: &mut Regs, mas: &Mas)
     regs.set_mas7(mas.m7);
 }
 
-/// (RA|0) + (RB).
-pub fn operand_address_of(insn: &Insn, regs: &Regs) -> u32
-    ensures { result ≡ operand_address insn.now.word regs.now }
-{
-    let base = match insn.ra() {
-        0 => 0,
-        number => regs.gpr(number as u8),
-    };
-    base.wrapping_add(regs.gpr(insn.rb() as u8))
-}
-
 /// The counter after a write by these registers.
 fn victim_after(mas: &Mas, nv: u8) -> u8
-    ensures { result ≡ next_victim mas.now nv }
+    requires { nv < 4 }
+    ensures counter { result ≡ next_victim mas.now nv }
+    ensures bound { result < 4 }
 {
-    if tlb_select(mas) == 0 {
-        (next_victim(mas) % WAYS) as u8
+    if mas.tlbsel() == 0 {
+        (mas.nv() % WAYS) as u8
     } else {
         nv
     }
@@ -89,23 +78,23 @@ pub fn write_tlb(regs: &mut Regs, mmu: &mut Mmu) -> Dead
     dead
 }
 
-/// What the registers tell of a slot.
-#[tactic(auto, using(crate::proofs::Upper::told_upper))]
-fn tell_slot(mas: &Mas, mmu: &Mmu, slot: u16) -> Mas
+/// The MAS registers when they report what a slot has.
+#[tactic(auto, using(crate::proofs::Upper::reported_upper))]
+fn report_slot(mas: &Mas, mmu: &Mmu, slot: u16) -> Mas
     requires { slot < 576 }
-    ensures told { result ≡ told (entry_at mmu.now.tlb slot) mas.now }
+    ensures mas { result ≡ reporting (entry_at mmu.now.tlb slot) mas.now }
     ensures upper { result.m7 < 16 }
 {
     to_mas(&mmu.tlb.read(slot), mas)
 }
 
-/// What the registers tell of the slot that they name.
-fn tell_named(mas: &Mas, mmu: &Mmu) -> Mas
-    ensures told { result ≡ told_of (named_slot mas.now) mmu.now.tlb mas.now }
+/// The MAS registers when they report what the slot has that they name.
+fn report_named(mas: &Mas, mmu: &Mmu) -> Mas
+    ensures mas { result ≡ reporting_slot (named_slot mas.now) mmu.now.tlb mas.now }
     ensures upper { result.m7 < 16 }
 {
     match slot_of(mas) {
-        Some(slot) => tell_slot(mas, mmu, slot),
+        Some(slot) => report_slot(mas, mmu, slot),
         None => Mas {
             m1: 0,
             m2: 0,
@@ -122,28 +111,26 @@ pub fn read_tlb(regs: &mut Regs, mmu: &Mmu)
     ensures { regs.new ≡ tlb_read regs.old mmu.now.tlb mmu.now.nv }
 {
     let mas = mas_from(regs);
-    let told = tell_named(&mas, mmu);
-    set_mas(regs, &with_next_victim(&told, mmu.nv));
+    set_mas(regs, &report_named(&mas, mmu).with_nv(mmu.nv));
     regs.advance();
 }
 
-/// What the registers tell of a slot that a search found.
-fn tell_found(mas: &Mas, mmu: &Mmu, slot: u16) -> Mas
+/// The MAS registers when they report a slot that a search found.
+fn report_found(mas: &Mas, mmu: &Mmu, slot: u16) -> Mas
     requires { slot < 576 }
-    ensures told { result ≡ telling_next mmu.now.nv (told (entry_at mmu.now.tlb slot) (naming slot mas.now)) }
+    ensures mas { result ≡ reporting_next mmu.now.nv (reporting (entry_at mmu.now.tlb slot) (naming slot mas.now)) }
     ensures upper { result.m7 < 16 }
 {
-    let told = tell_slot(&name_slot(slot, mas), mmu, slot);
-    with_next_victim(&told, mmu.nv)
+    report_slot(&name_slot(slot, mas), mmu, slot).with_nv(mmu.nv)
 }
 
-/// What the registers tell where a search found nothing.
+/// The MAS registers when they report that a search found nothing.
 #[tactic(auto, unfolding(mas::specs::Translation::missed))]
-fn tell_nothing(mas: &Mas, nv: u8, ea: u32) -> Mas
-    ensures told { result ≡ not_found ea nv mas.now }
+fn report_miss(mas: &Mas, nv: u8, ea: u32) -> Mas
+    ensures mas { result ≡ not_found ea nv mas.now }
     ensures upper { result.m7 < 16 }
 {
-    let missed = miss_mas(mas, search_pid(mas), search_space(mas), ea, nv);
+    let missed = miss_mas(mas, mas.spid(), mas.sas(), ea, nv);
     Mas {
         m1: missed.m1 % VALID,
         m6: mas.m6,
@@ -151,14 +138,14 @@ fn tell_nothing(mas: &Mas, nv: u8, ea: u32) -> Mas
     }
 }
 
-/// What the registers tell after a search.
-fn tell_search(mas: &Mas, mmu: &Mmu, ea: u32) -> Mas
-    ensures told { result ≡ found_by (search_of (sas_bit mas.now.m6) (spid_field mas.now.m6) ea mmu.now.tlb) ea mmu.now.tlb mmu.now.nv mas.now }
+/// The MAS registers when they report a search.
+fn report_search(mas: &Mas, mmu: &Mmu, ea: u32) -> Mas
+    ensures mas { result ≡ reporting_search (search_of (sas_bit mas.now.m6) (spid_field mas.now.m6) ea mmu.now.tlb) ea mmu.now.tlb mmu.now.nv mas.now }
     ensures upper { result.m7 < 16 }
 {
-    match mmu.tlb.search(search_space(mas), search_pid(mas), ea) {
-        Some(slot) => tell_found(mas, mmu, slot),
-        None => tell_nothing(mas, mmu.nv, ea),
+    match mmu.tlb.search(mas.sas(), mas.spid(), ea) {
+        Some(slot) => report_found(mas, mmu, slot),
+        None => report_miss(mas, mmu.nv, ea),
     }
 }
 
@@ -168,20 +155,20 @@ pub fn search_tlb(ea: u32, regs: &mut Regs, mmu: &Mmu)
     ensures { regs.new ≡ tlb_search ea regs.old mmu.now.tlb mmu.now.nv }
 {
     let mas = mas_from(regs);
-    let told = tell_search(&mas, mmu, ea);
-    set_mas(regs, &told);
+    let found = report_search(&mas, mmu, ea);
+    set_mas(regs, &found);
     regs.advance();
 }
 
-/// Ends translations of this core (`tlbilx`): all, those of a PID, or those of a PID with an effective address.
+/// Invalidates translations of this core (`tlbilx`): all, those of a PID, or those of a PID with an effective address.
 #[tactic(auto, unfolding(crate::specs::Tlb::tlb_invalidate_local))]
 pub fn invalidate_local(insn: &Insn, regs: &mut Regs, mmu: &mut Mmu) -> Dead
     ensures { tlb_invalidate_local insn.now.word regs.old mmu.old.tlb mmu.old.nv
         ≡ record { registers = regs.new; slots = mmu.new.tlb; nv = mmu.new.nv; ended = result.items } }
 {
     let mas = mas_from(regs);
-    let pid = search_pid(&mas);
-    let ea = operand_address_of(insn, regs);
+    let pid = mas.spid();
+    let ea = regs.indexed_address(insn.ra(), insn.rb());
     let dead = match insn.invalidate_kind() {
         0 => mmu.tlb.inval_all(true, true),
         1 => mmu.tlb.inval_pid(pid),
@@ -192,7 +179,7 @@ pub fn invalidate_local(insn: &Insn, regs: &mut Regs, mmu: &mut Mmu) -> Dead
     dead
 }
 
-/// Ends translations of one TLB (`tlbivax`): all, or those with the effective address.
+/// Invalidates translations of one TLB (`tlbivax`): all, or those with the effective address.
 #[tactic(auto, unfolding(crate::specs::Tlb::tlb_invalidate))]
 pub fn invalidate(ea: u32, regs: &mut Regs, mmu: &mut Mmu) -> Dead
     ensures { tlb_invalidate ea regs.old mmu.old.tlb mmu.old.nv
@@ -208,11 +195,11 @@ pub fn invalidate(ea: u32, regs: &mut Regs, mmu: &mut Mmu) -> Dead
     dead
 }
 
-/// Tells in the MAS registers that no translation matches an effective address in a space, for the running process.
+/// Reports in the MAS registers that no translation matches an effective address in a space, for the running process.
 #[tactic(auto, unfolding(crate::specs::Tlb::missing, mas::specs::Translation::missed))]
 pub fn miss(nv: u8, space: bool, ea: u32, regs: &mut Regs)
     ensures { regs.new ≡ missing nv space ea regs.old }
 {
     let mas = mas_from(regs);
-    set_mas(regs, &miss_mas(&mas, regs.pid() as u16, space, ea, nv));
+    set_mas(regs, &miss_mas(&mas, regs.pid(), space, ea, nv));
 }
