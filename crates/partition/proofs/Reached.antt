@@ -1,29 +1,30 @@
 -- What the slots of the translations keep, in every machine that is reached.
-use Rattle.std.proofs.Common.{◌≡◌, ℕ, ◌/◌, ◌%◌, ◌^◌, ◌==◌, Bool, true, false, not, ◌&&◌, cond, None, List, [], ◌∷◌}
+use Rattle.std.proofs.Common.{◌≡◌, ℕ, ◌<◌, ◌/◌, ◌%◌, ◌^◌, ◌==◌, Bool, true, false, not, ◌&&◌, cond, None, List, [], ◌∷◌, arith}
 use Rattle.insn.specs.declared.instruction.Op.{Op}
 use Rattle.insn.specs.declared.instruction.Op.TheVariants as op
 use Rattle.insn.specs.Fields.{invalidate_kind}
 use Rattle.guest_regs.specs.Registers.{Registers}
 use Rattle.mas.specs.declared.entry.Entry.{Entry}
-use Rattle.guest_tlb.specs.Sweep.{ends_all, ends_address}
+use Rattle.guest_tlb.specs.Invalidation.{ends_all, ends_address}
 use Rattle.guest_tlb.specs.Kept.{AreKept}
-use Rattle.guest_tlb.proofs.Upkeep.{writes_keep_all, sweeps_keep_all, reset_is_kept}
+use Rattle.guest_tlb.proofs.Upkeep.{writes_keep_all, invalidations_keep_all, reset_is_kept}
 use Rattle.core_step.specs.Step as core
 use Rattle.trap_emulate.specs.declared.cause.Cause.{Cause}
 use Rattle.trap_emulate.specs.declared.cause.Cause.TheVariants as cause
 use Rattle.trap_emulate.specs.Clock.{is_decrementer_pending}
 use Rattle.trap_emulate.specs.Entry.{are_interrupts_enabled, may_enter}
-use Rattle.trap_emulate.specs.Tlb.{Emulated, invalidated, mas_of, tlb_write, tlb_invalidate_local, tlb_invalidate}
+use Rattle.trap_emulate.specs.Tlb.{Emulated, after_invalidation, mas_of, tlb_write, tlb_invalidate_local, tlb_invalidate}
 use Rattle.trap_emulate.specs.Privileged.{emulated}
+use Rattle.trap_emulate.proofs.Victim.{emulation_keeps_victim}
 use Rattle.partition.specs.declared.call.Call.{Call}
 use Rattle.partition.specs.declared.call.Call.TheVariants as call
 use Rattle.partition.specs.declared.event.Event.{Event}
 use Rattle.partition.specs.declared.event.Event.TheVariants.{Room}
 use Rattle.partition.specs.Machine.{Machine, is_channel, boot}
-use Rattle.partition.specs.Translated.{is_translated}
-use Rattle.partition.specs.Step.{Act, Unbuilt, Stepped, quiet, entered, refused, sending, send, served, checked, missed, privileged, handled, instruction, begun, acted, unless_unbuilt, step}
+use Rattle.partition.specs.Translated.{lookup, is_translated}
+use Rattle.partition.specs.Step.{Act, NotBuilt, Stepped, quiet, entered, refused, sending, send, served, checked, missed, privileged, handled, instruction, begun, acted, unless_unbuilt, step}
 use Rattle.partition.specs.Event.{apply}
-use Rattle.partition.specs.Reached.{Move, Steps, Takes, moved, after_moves, TranslationsStayApart, TranslationsStaySound}
+use Rattle.partition.specs.Reached.{Move, Steps, Takes, moved, after_moves, TranslationsStayApart, TranslationsStaySound, VictimsStayWays}
 
 -- ---- privileged instructions
 
@@ -41,16 +42,16 @@ written registers slots nv h = record { slots = writes_keep_all (mas_of register
 ended_local : (word : ℕ) (registers : Registers) (slots : List Entry) (nv : ℕ) → AreKept slots → Keeps (tlb_invalidate_local word registers slots nv)
 unfolding tlb_invalidate_local
 ended_local word registers slots nv h =
-    either (invalidate_kind word == 0) _ _ (record { slots = sweeps_keep_all _ slots h })
-    (either (invalidate_kind word == 1) _ _ (record { slots = sweeps_keep_all _ slots h })
-    (either (invalidate_kind word == 3) _ _ (record { slots = sweeps_keep_all _ slots h }) (record { slots = h })))
+    either (invalidate_kind word == 0) _ _ (record { slots = invalidations_keep_all _ slots h })
+    (either (invalidate_kind word == 1) _ _ (record { slots = invalidations_keep_all _ slots h })
+    (either (invalidate_kind word == 3) _ _ (record { slots = invalidations_keep_all _ slots h }) (record { slots = h })))
 
 ended : (ea : ℕ) (registers : Registers) (slots : List Entry) (nv : ℕ) → AreKept slots → Keeps (tlb_invalidate ea registers slots nv)
 unfolding tlb_invalidate
 ended ea registers slots nv h =
     let second : Bool = ea / 2 ^ 3 % 2 == 1 in
-    either (ea / 2 ^ 2 % 2 == 1) (invalidated (ends_all (not second) second) registers slots nv) (invalidated (ends_address ea None (not second) second) registers slots nv)
-    (record { slots = sweeps_keep_all _ slots h }) (record { slots = sweeps_keep_all _ slots h })
+    either (ea / 2 ^ 2 % 2 == 1) (after_invalidation (ends_all (not second) second) registers slots nv) (after_invalidation (ends_address ea None (not second) second) registers slots nv)
+    (record { slots = invalidations_keep_all _ slots h }) (record { slots = invalidations_keep_all _ slots h })
 
 by_row : (operation : Op) (word : ℕ) (registers : Registers) (slots : List Entry) (nv : ℕ) → AreKept slots → Keeps (emulated operation word registers slots nv)
 unfolding emulated
@@ -61,103 +62,119 @@ by_row _ word registers slots nv h = record { slots = h }
 
 -- ---- the step
 
+-- what is reached keeps of the translations
+record AreSound (machine : Machine) : Type 0 where
+  slots : AreKept machine.translations
+  victim : machine.next_victim < 4
+
 record Stays (done : Stepped) : Type 0 where
   slots : AreKept done.after.translations
+  victim : done.after.next_victim < 4
 
 of_either : (b : Bool) (one other : Stepped) → Stays one → Stays other → Stays (cond b one other)
 of_either true one other h k = h
 of_either false one other h k = k
 
-stays_refused : (machine : Machine) → AreKept machine.translations → (s : _) → Stays (refused s machine)
+stays_refused : (machine : Machine) → AreSound machine → (s : _) → Stays (refused s machine)
 unfolding refused
-stays_refused machine h s = record { slots = h }
+stays_refused machine h s = record { slots = h.slots; victim = h.victim }
 
-stays_sent : (machine : Machine) → AreKept machine.translations → (s : _) (handle count : ℕ) → Stays (sending s handle count machine)
+stays_sent : (machine : Machine) → AreSound machine → (s : _) (handle count : ℕ) → Stays (sending s handle count machine)
 unfolding sending
-stays_sent machine h s handle count = record { slots = h }
+stays_sent machine h s handle count = record { slots = h.slots; victim = h.victim }
 
-stays_send : (machine : Machine) → AreKept machine.translations → Stays (send machine)
+stays_send : (machine : Machine) → AreSound machine → Stays (send machine)
 unfolding send
 stays_send machine h = of_either _ _ _ (stays_refused machine h _) (of_either _ _ _ (stays_sent machine h _ _ _) (stays_sent machine h _ _ _))
 
-stays_served : (service : Call) (machine : Machine) → AreKept machine.translations → Stays (served service machine)
+stays_served : (service : Call) (machine : Machine) → AreSound machine → Stays (served service machine)
 unfolding served
 stays_served call.ByteChannelSend machine h = stays_send machine h
 stays_served call.Unlisted machine h = stays_refused machine h _
-stays_served _ machine h = record { slots = h }
+stays_served _ machine h = record { slots = h.slots; victim = h.victim }
 
-stays_checked : (machine : Machine) → AreKept machine.translations → Stays (checked machine)
+stays_checked : (machine : Machine) → AreSound machine → Stays (checked machine)
 unfolding checked
-stays_checked machine h = of_either (may_enter cause.MachineCheck machine.registers) _ _ (record { slots = h }) (record { slots = h })
+stays_checked machine h = of_either (may_enter cause.MachineCheck machine.registers) _ _ (record { slots = h.slots; victim = h.victim }) (record { slots = h.slots; victim = h.victim })
 
-stays_missed : (reason : Cause) (space : Bool) (ea : ℕ) (machine : Machine) → AreKept machine.translations → Stays (missed reason space ea machine)
+stays_missed : (reason : Cause) (space : Bool) (ea : ℕ) (machine : Machine) → AreSound machine → Stays (missed reason space ea machine)
 unfolding missed
 stays_missed reason space ea machine h =
-    of_either (is_translated machine.translations space machine.registers.pid ea) _ _ (stays_checked machine h) (record { slots = h })
+    of_either (is_translated machine.translations space machine.registers.pid ea) _ _ (stays_checked machine h) (record { slots = h.slots; victim = h.victim })
 
-stays_privileged : (machine : Machine) (insn : _) → AreKept machine.translations → Stays (privileged insn machine)
+stays_privileged : (machine : Machine) (insn : _) → AreSound machine → Stays (privileged insn machine)
 unfolding privileged
-stays_privileged machine insn h = record { slots = (by_row insn.op insn.word machine.registers machine.translations machine.next_victim h).slots }
+stays_privileged machine insn h = record {
+  slots = (by_row insn.op insn.word machine.registers machine.translations machine.next_victim h.slots).slots;
+  victim = emulation_keeps_victim insn.op insn.word machine.next_victim machine.registers machine.translations h.victim;
+}
 
-stays_handled : (answer : core.Answer) (machine : Machine) → AreKept machine.translations → Stays (handled answer machine)
+stays_handled : (answer : core.Answer) (machine : Machine) → AreSound machine → Stays (handled answer machine)
 unfolding handled
-stays_handled (core.Retired ranges) machine h = record { slots = h }
-stays_handled core.Waiting machine h = record { slots = h }
-stays_handled core.Sc machine h = record { slots = h }
+stays_handled (core.Retired ranges) machine h = record { slots = h.slots; victim = h.victim }
+stays_handled core.Waiting machine h = record { slots = h.slots; victim = h.victim }
+stays_handled core.Sc machine h = record { slots = h.slots; victim = h.victim }
 stays_handled core.Hcall machine h = stays_served _ machine h
 stays_handled (core.Priv insn) machine h = stays_privileged machine insn h
 stays_handled (core.MissData ea store) machine h = stays_missed _ _ ea machine h
 stays_handled (core.MissInsn ea) machine h = stays_missed _ _ ea machine h
-stays_handled (core.StorageData ea store little) machine h = record { slots = h }
-stays_handled (core.StorageInsn little) machine h = record { slots = h }
-stays_handled (core.Align ea store) machine h = record { slots = h }
-stays_handled (core.Program syndrome) machine h = record { slots = h }
-stays_handled core.NoFloat machine h = record { slots = h }
+stays_handled (core.StorageData ea store little) machine h = record { slots = h.slots; victim = h.victim }
+stays_handled (core.StorageInsn little) machine h = record { slots = h.slots; victim = h.victim }
+stays_handled (core.Align ea store) machine h = record { slots = h.slots; victim = h.victim }
+stays_handled (core.Program syndrome) machine h = record { slots = h.slots; victim = h.victim }
+stays_handled core.NoFloat machine h = record { slots = h.slots; victim = h.victim }
 
-stays_instruction : (machine : Machine) → AreKept machine.translations → Stays (instruction machine)
+stays_instruction : (machine : Machine) → AreSound machine → Stays (instruction machine)
 unfolding instruction
-stays_instruction machine h = stays_handled _ _ h
+stays_instruction machine h =
+    let done : core.Stepped = core.stepped (lookup machine.translations) machine.registers machine.memory in
+    stays_handled done.answer (record machine { registers = done.registers; memory = done.memory }) (record { slots = h.slots; victim = h.victim })
 
-stays_acted : (machine : Machine) → AreKept machine.translations → Stays (acted machine)
+stays_acted : (machine : Machine) → AreSound machine → Stays (acted machine)
 unfolding acted
 stays_acted machine h =
-    of_either (is_decrementer_pending machine.registers && are_interrupts_enabled machine.registers) (entered cause.Decrementer machine) _ (record { slots = h })
-    (of_either machine.registers.idle (quiet machine) _ (record { slots = h }) (stays_instruction machine h))
+    of_either (is_decrementer_pending machine.registers && are_interrupts_enabled machine.registers) (entered cause.Decrementer machine) _ (record { slots = h.slots; victim = h.victim })
+    (of_either machine.registers.idle (quiet machine) _ (record { slots = h.slots; victim = h.victim }) (stays_instruction machine h))
 
-stays_begun : (machine : Machine) → AreKept machine.translations → AreKept (begun machine).translations
+stays_begun : (machine : Machine) → AreSound machine → AreSound (begun machine)
 unfolding begun
-stays_begun machine h = h
+stays_begun machine h = record { slots = h.slots; victim = h.victim }
 
-stays_unless : (act : Act) (done : Stepped) (before : Machine) → AreKept before.translations → Stays done → Stays (unless_unbuilt act done before)
-stays_unless Unbuilt done before h k = record { slots = h }
+stays_unless : (act : Act) (done : Stepped) (before : Machine) → AreSound before → Stays done → Stays (unless_unbuilt act done before)
+stays_unless NotBuilt done before h k = record { slots = h.slots; victim = h.victim }
 stays_unless _ done before h k = k
 
-stays_step : (machine : Machine) → AreKept machine.translations → AreKept (step machine).after.translations
+stays_step : (machine : Machine) → AreSound machine → AreSound (step machine).after
 unfolding step
-stays_step machine h = (stays_unless _ _ machine h (stays_acted (begun machine) (stays_begun machine h))).slots
+stays_step machine h =
+    let done = stays_unless (acted (begun machine)).act (acted (begun machine)) machine h (stays_acted (begun machine) (stays_begun machine h)) in
+    record { slots = done.slots; victim = done.victim }
 
-by_handle : (b : Bool) (one other : Machine) → AreKept one.translations → AreKept other.translations → AreKept (cond b one other).translations
+by_handle : (b : Bool) (one other : Machine) → AreSound one → AreSound other → AreSound (cond b one other)
 by_handle true one other h k = h
 by_handle false one other h k = k
 
-stays_told : (event : Event) (machine : Machine) → AreKept machine.translations → AreKept (apply machine event).translations
+stays_told : (event : Event) (machine : Machine) → AreSound machine → AreSound (apply machine event)
 unfolding apply
-stays_told (Room handle count) machine h = by_handle (is_channel handle) _ machine h h
+stays_told (Room handle count) machine h = by_handle (is_channel handle) _ machine (record { slots = h.slots; victim = h.victim }) h
 
-stays_moved : (move : Move) (machine : Machine) → AreKept machine.translations → AreKept (moved move machine).translations
+stays_moved : (move : Move) (machine : Machine) → AreSound machine → AreSound (moved move machine)
 stays_moved Steps machine h = stays_step machine h
 stays_moved (Takes event) machine h = stays_told event machine h
 
-stays_after : (moves : List Move) (machine : Machine) → AreKept machine.translations → AreKept (after_moves moves machine).translations
+stays_after : (moves : List Move) (machine : Machine) → AreSound machine → AreSound (after_moves moves machine)
 stays_after [] machine h = h
 stays_after (move ∷ moves) machine h = stays_after moves (moved move machine) (stays_moved move machine h)
 
-booted : (image : List ℕ) → AreKept (boot image).translations
+booted : (image : List ℕ) → AreSound (boot image)
 unfolding boot
-booted image = reset_is_kept
+booted image = record { slots = reset_is_kept; victim = omega arith }
 
 pub stay_sound : TranslationsStaySound
-stay_sound image moves = stays_after moves (boot image) (booted image)
+stay_sound image moves = (stays_after moves (boot image) (booted image)).slots
+
+pub stay_ways : VictimsStayWays
+stay_ways image moves = (stays_after moves (boot image) (booted image)).victim
 
 pub stay_apart : TranslationsStayApart
 stay_apart image moves = (stay_sound image moves).apart

@@ -6,15 +6,15 @@ use Rattle.core_step.specs.declared.answer.Hw.TheVariants as hw
 use Rattle.core_step.specs.Step.{answered, KeepsUnlessDone}
 use Rattle.trap_emulate.specs.Clock.{ticked, time_passed, expired, is_decrementer_pending}
 use Rattle.partition.specs.declared.event.LoneStep.{LoneStep}
-use Rattle.partition.specs.declared.event.LoneStep.TheVariants.{Quiet, Sent, Faulted, NotBuilt}
+use Rattle.partition.specs.declared.event.LoneStep.TheVariants as code
 use Rattle.partition.specs.Machine.{Machine}
-use Rattle.partition.specs.Step.{Stepped, Act, Nothing, Unbuilt, quiet, not_built, handled, woken, begun, acted, unless_unbuilt, step}
+use Rattle.partition.specs.Step.{Stepped, Act, Quiet, NotBuilt, quiet, not_built, handled, woken, begun, acted, unless_unbuilt, step}
 use Rattle.partition.specs.Event.{act_of, IsCounted, KeepsUnbuilt}
 
 -- ---- an instruction that isn't built left the machine
 
-nothing_built : (mid new : Machine) → quiet mid ≡ record { after = new; act = Unbuilt } → ⊥
-nothing_built mid new e = let f : Nothing ≡ Unbuilt = ap (λ (s : Stepped). s.act) e in cc
+nothing_built : (mid new : Machine) → quiet mid ≡ record { after = new; act = NotBuilt } → ⊥
+nothing_built mid new e = let f : Quiet ≡ NotBuilt = ap (λ (s : Stepped). s.act) e in cc
 
 same : (old mid : Machine) → mid ≡ record old { registers = mid.registers; memory = mid.memory } → mid.registers ≡ old.registers → mid.memory ≡ old.memory → mid ≡ old
 same old mid e f g = e ∙ (ap (λ r. record old { registers = r; memory = mid.memory }) f ∙ ap (λ m. record old { memory = m }) g)
@@ -27,7 +27,7 @@ left : (old mid new : Machine) → mid ≡ record old { registers = mid.register
 left old mid new e kept f = f ∙ same old mid e kept.0 kept.1
 
 unbuilt : (answer : Hw) (old mid new : Machine) → mid ≡ record old { registers = mid.registers; memory = mid.memory }
-    → handled (answered answer) mid ≡ record { after = new; act = Unbuilt } → KeepsUnlessDone (answered answer) old.registers mid.registers old.memory mid.memory → new ≡ mid → new ≡ old
+    → handled (answered answer) mid ≡ record { after = new; act = NotBuilt } → KeepsUnlessDone (answered answer) old.registers mid.registers old.memory mid.memory → new ≡ mid → new ≡ old
 unfolding handled
 unbuilt (hw.Retired ranges) old mid new e h kept f = absurd (nothing_built mid new h)
 unbuilt hw.Waiting old mid new e h kept f = absurd (nothing_built mid new h)
@@ -45,32 +45,32 @@ unbuilt hw.NoFloat old mid new e h kept f = left old mid new e kept f
 pub unbuilt_stays : (answer : Hw) (done : LoneStep) (old mid new : Machine) → mid ≡ record old { registers = mid.registers; memory = mid.memory }
     → handled (answered answer) mid ≡ record { after = new; act = act_of done } → KeepsUnlessDone (answered answer) old.registers mid.registers old.memory mid.memory
     → KeepsUnbuilt done mid new → KeepsUnbuilt done old new
-unbuilt_stays answer NotBuilt old mid new e h kept f = unbuilt answer old mid new e h kept f
-unbuilt_stays answer Quiet old mid new e h kept f = counted old mid new e f
-unbuilt_stays answer (Sent bytes) old mid new e h kept f = counted old mid new e f
-unbuilt_stays answer Faulted old mid new e h kept f = counted old mid new e f
+unbuilt_stays answer code.NotBuilt old mid new e h kept f = unbuilt answer old mid new e h kept f
+unbuilt_stays answer code.Quiet old mid new e h kept f = counted old mid new e f
+unbuilt_stays answer (code.Sent bytes) old mid new e h kept f = counted old mid new e f
+unbuilt_stays answer code.Faulted old mid new e h kept f = counted old mid new e f
 
 -- ---- the whole step
 
 choice : (done : Stepped) (old new : Machine) (act : Act) → done ≡ record { after = new; act = act } → unless_unbuilt done.act done old ≡ unless_unbuilt act (record { after = new; act = act }) old
 choice done old new act e = ap (λ (s : Stepped). unless_unbuilt s.act s old) e
 
-pub step_unbuilt : (old mid : Machine) → acted (begun old) ≡ record { after = mid; act = Unbuilt } → step old ≡ not_built old
+pub step_unbuilt : (old mid : Machine) → acted (begun old) ≡ record { after = mid; act = NotBuilt } → step old ≡ not_built old
 unfolding step
-step_unbuilt old mid e = choice _ old mid Unbuilt e
+step_unbuilt old mid e = choice _ old mid NotBuilt e
 
-pub step_done : (old new : Machine) (done : LoneStep) → (done ≡ NotBuilt → ⊥) → acted (begun old) ≡ record { after = new; act = act_of done } → step old ≡ record { after = new; act = act_of done }
+pub step_done : (old new : Machine) (done : LoneStep) → (done ≡ code.NotBuilt → ⊥) → acted (begun old) ≡ record { after = new; act = act_of done } → step old ≡ record { after = new; act = act_of done }
 unfolding step
-step_done old new Quiet other e = choice _ old new Nothing e
-step_done old new (Sent bytes) other e = choice _ old new _ e
-step_done old new Faulted other e = choice _ old new _ e
-step_done old new NotBuilt other e = absurd (other refl)
+step_done old new code.Quiet other e = choice _ old new Quiet e
+step_done old new (code.Sent bytes) other e = choice _ old new _ e
+step_done old new code.Faulted other e = choice _ old new _ e
+step_done old new code.NotBuilt other e = absurd (other refl)
 
-pub counted_on : (done : LoneStep) (old mid new : Machine) → (done ≡ NotBuilt → ⊥) → mid.steps ≡ old.steps + 1 → KeepsUnbuilt done mid new → IsCounted done old new
-counted_on Quiet old mid new other e f = f ∙ e
-counted_on (Sent bytes) old mid new other e f = f ∙ e
-counted_on Faulted old mid new other e f = f ∙ e
-counted_on NotBuilt old mid new other e f = absurd (other refl)
+pub counted_on : (done : LoneStep) (old mid new : Machine) → (done ≡ code.NotBuilt → ⊥) → mid.steps ≡ old.steps + 1 → KeepsUnbuilt done mid new → IsCounted done old new
+counted_on code.Quiet old mid new other e f = f ∙ e
+counted_on (code.Sent bytes) old mid new other e f = f ∙ e
+counted_on code.Faulted old mid new other e f = f ∙ e
+counted_on code.NotBuilt old mid new other e f = absurd (other refl)
 
 -- ---- taking back
 

@@ -29,6 +29,10 @@ pub record Machine : Type 0 where
 abbrev pub memory_size : ℕ
 memory_size = 65536
 
+-- how many steps a machine may do in all
+abbrev pub most_steps : ℕ
+most_steps = 1000000000000
+
 abbrev pub is_channel : ℕ → Bool
 is_channel handle = handle == 1
 

@@ -1,5 +1,5 @@
 -- The machines that can be reached, and what holds of all of them.
-use Rattle.std.specs.Prelude.{ℕ, List, [], ◌∷◌}
+use Rattle.std.specs.Prelude.{ℕ, ◌<◌, List, [], ◌∷◌}
 use Rattle.guest_tlb.specs.Kept.{AreApart, AreKept}
 use Rattle.partition.specs.declared.event.Event.{Event}
 use Rattle.partition.specs.Machine.{Machine, boot}
@@ -27,3 +27,7 @@ TranslationsStayApart = (image : List ℕ) (moves : List Move) → AreApart (aft
 -- And the slots keep all else that the TLBs keep: their number, and the sizes and places of pages.
 abbrev pub TranslationsStaySound : Type 0
 TranslationsStaySound = (image : List ℕ) (moves : List Move) → AreKept (after_moves moves (boot image)).translations
+
+-- And the next victim is always one of the four ways of TLB0.
+abbrev pub VictimsStayWays : Type 0
+VictimsStayWays = (image : List ℕ) (moves : List Move) → (after_moves moves (boot image)).next_victim < 4

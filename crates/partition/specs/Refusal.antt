@@ -3,7 +3,7 @@ use Rattle.std.specs.Prelude.{◌≡◌, ◌≢◌, ℕ, [], length}
 use Rattle.guest_regs.specs.Registers.{Registers, gpr_of}
 use Rattle.partition.specs.Machine.{Machine}
 use Rattle.partition.specs.Calling.{CallsNext}
-use Rattle.partition.specs.Step.{Unbuilt, begun, step}
+use Rattle.partition.specs.Step.{NotBuilt, begun, step}
 
 -- the registers without the general ones and the PC
 abbrev pub other_registers : Registers → Registers
@@ -34,4 +34,4 @@ RefusesQuietly old new =
 -- time has passed.
 abbrev pub RefusalsAreQuiet : Type 0
 RefusalsAreQuiet =
-    (machine : Machine) → length machine.registers.gpr ≡ 32 → CallsNext machine → (step machine).act ≢ Unbuilt → RefusesQuietly (begun machine) (step machine).after
+    (machine : Machine) → length machine.registers.gpr ≡ 32 → CallsNext machine → (step machine).act ≢ NotBuilt → RefusesQuietly (begun machine) (step machine).after

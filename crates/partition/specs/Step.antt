@@ -1,12 +1,13 @@
 -- One step of the machine.
 use Rattle.std.specs.Prelude.{ℕ, ◌+◌, ◌^◌, Bool, true, false, not, ◌&&◌, ◌||◌, nat_lt, List, [], ◌∷◌, take, if◌then◌else◌}
 use Rattle.insn.specs.declared.instruction.Insn.{Insn}
+use Rattle.guest_regs.specs.State.{store_syndrome, order_syndrome}
 use Rattle.guest_regs.specs.Registers.{Registers, gpr_of, with_gpr, instruction_space, data_space}
 use Rattle.core_step.specs.Step as core
 use Rattle.trap_emulate.specs.declared.cause.Cause.{Cause}
 use Rattle.trap_emulate.specs.declared.cause.Cause.TheVariants as cause
 use Rattle.trap_emulate.specs.Clock.{is_decrementer_pending, ticked}
-use Rattle.trap_emulate.specs.Entry.{are_interrupts_enabled, delivered, may_enter, store_syndrome}
+use Rattle.trap_emulate.specs.Entry.{are_interrupts_enabled, delivered, may_enter}
 use Rattle.trap_emulate.specs.Tlb.{Emulated}
 use Rattle.trap_emulate.specs.Privileged.{emulated}
 use Rattle.partition.specs.declared.call.Call.{Call}
@@ -19,13 +20,13 @@ use Rattle.partition.specs.Translated.{lookup, is_translated}
 
 -- what a step did that others see
 pub data Act : Type 0 where
-  Nothing : Act
+  Quiet : Act
   -- on this handle, these bytes
-  Sends : ℕ → List ℕ → Act
+  Sent : ℕ → List ℕ → Act
   -- the partition met a machine check that it couldn't take
-  Faults : Act
+  Faulted : Act
   -- the machine has no rule for what the program asks there
-  Unbuilt : Act
+  NotBuilt : Act
 
 -- the machine after a step, and what the step did
 pub record Stepped : Type 0 where
@@ -34,10 +35,10 @@ pub record Stepped : Type 0 where
 
 -- what others don't see
 abbrev pub quiet : Machine → Stepped
-quiet machine = record { after = machine; act = Nothing }
+quiet machine = record { after = machine; act = Quiet }
 
 abbrev pub not_built : Machine → Stepped
-not_built machine = record { after = machine; act = Unbuilt }
+not_built machine = record { after = machine; act = NotBuilt }
 
 abbrev pub with_registers : Registers → Machine → Machine
 with_registers registers machine = record machine { registers = registers }
@@ -46,8 +47,8 @@ with_registers registers machine = record machine { registers = registers }
 
 -- to send no bytes is to do nothing
 abbrev pub sent : ℕ → List ℕ → Act
-sent handle [] = Nothing
-sent handle (byte ∷ bytes) = Sends handle (byte ∷ bytes)
+sent handle [] = Quiet
+sent handle (byte ∷ bytes) = Sent handle (byte ∷ bytes)
 
 -- a hypercall that changes r3 alone
 unfoldable pub refused : Status → Machine → Stepped
@@ -89,17 +90,13 @@ entered cause machine = quiet (with_registers (delivered machine.next_victim cau
 unfoldable pub checked : Machine → Stepped
 checked machine =
     if may_enter cause.MachineCheck machine.registers then entered cause.MachineCheck machine
-    else record { after = record machine { faulted = true }; act = Faults }
+    else record { after = record machine { faulted = true }; act = Faulted }
 
 -- An access that finds no memory: where a translation matches it is a machine check, and where none does a TLB error, which is the
 -- cause.
 unfoldable pub missed : Cause → Bool → ℕ → Machine → Stepped
 missed cause space ea machine =
     if is_translated machine.translations space machine.registers.pid ea then checked machine else entered cause machine
-
--- BO of the exception syndrome register (Power ISA 2.06, Book III-E, chapter 7): the page is little-endian
-abbrev pub order_syndrome : Bool → ℕ
-order_syndrome little = if little then 2 ^ 17 else 0
 
 -- ---- the instruction
 
@@ -151,7 +148,7 @@ acted machine =
 
 -- a step that isn't built isn't done: the machine is as it was before
 abbrev pub unless_unbuilt : Act → Stepped → Machine → Stepped
-unless_unbuilt Unbuilt done before = not_built before
+unless_unbuilt NotBuilt done before = not_built before
 unless_unbuilt _ done before = done
 
 unfoldable pub step : Machine → Stepped

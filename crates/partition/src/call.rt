@@ -1,3 +1,5 @@
+//! The hypervisor's services and their statuses.
+
 /// A service of the hypervisor, by the token that asks for it (ePAPR 1.1, chapter 7, and its vendor space 2).
 #[derive(Clone, Copy, Debug, PartialEq, Eq)]
 pub enum Call {

@@ -1,3 +1,5 @@
+//! What a step did, and what the world does between two steps.
+
 use arrayvec::ArrayVec;
 
 /// What one step did that others see.

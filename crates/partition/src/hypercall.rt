@@ -1,13 +1,12 @@
 //! The hypercall's tokens, and what its registers hold.
 
-ghost use Rattle.std.specs.Prelude.{◌≡◌, ℕ, ◌+◌, ◌++◌, take, ◌≤◌};
-ghost use Rattle.std.specs.Int.{w32, to_be_bytes};
+ghost use Rattle.std.specs.Prelude.{◌≡◌, ℕ, take, ◌≤◌};
 ghost use Rattle.arrayvec.specs.ArrayVec.{array_vec_len};
 ghost use Rattle.partition.specs.Hypercall.{call_of, code_of, answered, payload};
 
 use crate::call::{Call, Status};
 use arrayvec::ArrayVec;
-use guest_regs::Regs;
+use guest_regs::{Regs, push_word};
 
 /// The service that a token asks for.
 #[tactic(auto, unfolding(crate::specs::Hypercall::call_of, crate::specs::Hypercall::services))]
@@ -72,16 +71,4 @@ pub fn payload_of(regs: &Regs, count: usize) -> ArrayVec<u8, 16>
     push_word(&mut bytes, regs.gpr(8));
     bytes.truncate(count);
     bytes
-}
-
-fn push_word(bytes: &mut ArrayVec<u8, 16>, word: u32)
-    requires { array_vec_len bytes.old ≤ 12 }
-    ensures bytes { bytes.new.items ≡ bytes.old.items ++ to_be_bytes w32 word }
-    ensures length { array_vec_len bytes.new ≡ array_vec_len bytes.old + 4 }
-{
-    let [first, second, third, last] = word.to_be_bytes();
-    bytes.push(first);
-    bytes.push(second);
-    bytes.push(third);
-    bytes.push(last);
 }

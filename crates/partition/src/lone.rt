@@ -4,8 +4,9 @@ ghost use Rattle.std.specs.Prelude.{◌≡◌, ℕ, ◌+◌, ◌-◌, ◌<◌, �
 ghost use Rattle.guest_regs.specs.Registers.{gpr_of};
 ghost use Rattle.core_step.specs.Step as core;
 ghost use Rattle.partition.specs.Hypercall.{call_of};
-ghost use Rattle.partition.specs.Machine.{loaded, boot, port_of};
-ghost use Rattle.partition.specs.Step.{Nothing, quiet, refused, sending, send, served, entered, checked, missed, privileged, handled, instruction, begun, acted, step, order_syndrome};
+ghost use Rattle.partition.specs.Machine.{most_steps, memory_size, channel_size, loaded, boot, port_of};
+ghost use Rattle.partition.specs.Translated.{lookup};
+ghost use Rattle.partition.specs.Step.{Quiet, quiet, refused, sending, send, served, entered, checked, missed, privileged, handled, instruction, begun, acted, step};
 ghost use Rattle.trap_emulate.specs.Entry.{may_enter};
 ghost use Rattle.partition.specs.Calling.{IsUnbuilt};
 ghost use Rattle.partition.specs.Event.{apply, act_of, HasBytes, IsCounted, KeepsUnbuilt, TellsFault};
@@ -17,7 +18,7 @@ use crate::hypercall::{answer, call_of_token, payload_of};
 use crate::translations::{MEMORY_SIZE, Translations};
 use core_step::{Core, Hw};
 use ground::Ground;
-use guest_regs::boot;
+use guest_regs::{boot, order_syndrome, store_syndrome};
 use guest_tlb::GuestTlb;
 use insn::Insn;
 use outside::NoMemory;
@@ -25,7 +26,6 @@ use std::alloc::Global;
 use std::marker::Model;
 use trap_emulate::{
     Cause, Mmu, are_interrupts_enabled, deliver, emulate, is_decrementer_pending, may_enter,
-    store_syndrome,
 };
 
 /// The handle of the one channel.
@@ -36,9 +36,6 @@ const CHANNEL_SIZE: u16 = 256;
 
 /// The most bytes that one hypercall sends.
 const SEND_SIZE: u32 = 16;
-
-/// BO of the ESR: the page is little-endian.
-const BYTE_ORDER: u32 = 0x0002_0000;
 
 /// The built-in machine alone: one partition with one core, 65,536 bytes of private memory at logical
 /// address 0, and one channel, which is handle 1. Contracts see the record `Machine` of its definition.
@@ -54,12 +51,12 @@ pub struct Lone {
 
 impl Model for Lone {
     ghost use Rattle.std.specs.Prelude.{◌≡◌, ◌≤◌, [], ◌∷◌, length, map};
-    ghost use Rattle.partition.specs.Machine.{Machine};
+    ghost use Rattle.partition.specs.Machine.{Machine, memory_size, channel_size};
 
     ghost Value = { Machine };
 
     ghost view = { λ lone. record {
-      registers = lone.core;
+      registers = lone.core.registers;
       translations = lone.translations.mmu.tlb;
       next_victim = lone.translations.mmu.nv;
       memory = lone.memory;
@@ -68,7 +65,7 @@ impl Model for Lone {
       faulted = lone.faulted;
     } };
 
-    ghost invariant = { λ lone. (map length lone.memory ≡ 65536 ∷ []) × (lone.outstanding ≤ 256) };
+    ghost invariant = { λ lone. (map length lone.memory ≡ memory_size ∷ []) × (lone.outstanding ≤ channel_size) };
 }
 
 impl Lone {
@@ -77,7 +74,7 @@ impl Lone {
     /// where memory runs out.
     #[tactic(auto, unfolding(crate::specs::Machine::boot))]
     pub fn new(alloc: Global, image: &[u8]) -> Result<Lone, NoMemory>
-        requires { length image.now ≤ 65536 }
+        requires { length image.now ≤ memory_size }
         ensures fresh { IfOk result (λ machine. machine ≡ boot image.now) }
         ensures uncounted { IfOk result (λ machine. machine.steps ≡ 0) }
     {
@@ -112,7 +109,7 @@ impl Lone {
 
     /// The core that does the partition's instructions.
     pub fn core(&self) -> &Core
-        ensures { result.now ≡ self.now.registers }
+        ensures { result.now.registers ≡ self.now.registers }
     {
         &self.core
     }
@@ -124,7 +121,7 @@ impl Lone {
     #[tactic(auto, using(crate::proofs::Steps::step_unbuilt, crate::proofs::Steps::step_done, crate::proofs::Steps::taken_back))]
     pub fn step(&mut self) -> LoneStep
         requires running { self.old.faulted ≡ false }
-        requires few { self.old.steps < 1000000000000 }
+        requires few { self.old.steps < most_steps }
         ensures stepped { step self.old ≡ record { after = self.new; act = act_of result } }
         ensures bytes { HasBytes result }
         ensures counted { IsCounted result self.old self.new }
@@ -160,7 +157,7 @@ impl Lone {
     /// Counts the step, and lets its time pass.
     #[tactic(auto, unfolding(crate::specs::Step::begun))]
     fn begin(&mut self)
-        requires { self.old.steps < 1000000000000 }
+        requires { self.old.steps < most_steps }
         ensures begun { self.new ≡ begun self.old }
         ensures steps { self.new.steps ≡ self.old.steps + 1 }
         ensures fault { self.new.faulted ≡ self.old.faulted }
@@ -201,7 +198,7 @@ impl Lone {
     }
 
     /// Does an instruction, and what comes of it.
-    #[tactic(auto, using(crate::proofs::Steps::unbuilt_stays, crate::proofs::Backed::blocks_backed), unfolding(crate::specs::Step::instruction))]
+    #[tactic(auto, using(crate::proofs::Steps::unbuilt_stays), unfolding(crate::specs::Step::instruction))]
     fn instruct(&mut self) -> LoneStep
         requires { self.old.faulted ≡ false }
         ensures done { instruction self.old ≡ record { after = self.new; act = act_of result } }
@@ -209,10 +206,21 @@ impl Lone {
         ensures kept { KeepsUnbuilt result self.old self.new }
         ensures fault { TellsFault result self.new.faulted }
     {
+        let answer = self.execute();
+        self.handle(answer)
+    }
+
+    /// Does as much of an instruction as is the core's.
+    #[tactic(auto, using(crate::proofs::Backed::blocks_backed))]
+    fn execute(&mut self) -> Hw
+        ensures done { core.stepped (lookup self.old.translations) self.old.registers self.old.memory
+            ≡ record { answer = core.answered result; registers = self.new.registers; memory = self.new.memory } }
+        ensures kept { core.KeepsUnlessDone (core.answered result) self.old.registers self.new.registers self.old.memory self.new.memory }
+        ensures others { self.new ≡ record self.old { registers = self.new.registers; memory = self.new.memory } }
+    {
         // What the slots keep: so each block that the core finds lies in the memory.
         self.translations.mmu.tlb.are_kept();
-        let answer = self.core.step(&self.translations, &mut self.memory);
-        self.handle(answer)
+        self.core.step(&self.translations, &mut self.memory)
     }
 
     /// Does what the core's answer asks for.
@@ -292,7 +300,7 @@ impl Lone {
         ensures kept { KeepsUnbuilt result self.old self.new }
         ensures fault { TellsFault result self.new.faulted }
     {
-        let pid = self.core.regs().pid() as u16;
+        let pid = self.core.regs().pid();
         if self.translations.is_translated(space, pid, ea) {
             self.check()
         } else {
@@ -354,7 +362,7 @@ impl Lone {
     /// Answers a hypercall by its status alone.
     #[tactic(auto, unfolding(crate::specs::Step::refused))]
     fn refuse(&mut self, status: Status) -> LoneStep
-        ensures refused { refused status self.old ≡ record { after = self.new; act = Nothing } }
+        ensures refused { refused status self.old ≡ record { after = self.new; act = Quiet } }
         ensures quiet { result ≡ LoneStep.Quiet }
         ensures steps { self.new.steps ≡ self.old.steps }
         ensures fault { self.new.faulted ≡ self.old.faulted }
@@ -367,7 +375,7 @@ impl Lone {
     #[tactic(auto, unfolding(crate::specs::Step::sending))]
     fn deliver(&mut self, status: Status, count: u16) -> LoneStep
         requires some { count ≤ 16 }
-        requires room { (port_of self.old 1).outstanding + count ≤ 256 }
+        requires room { (port_of self.old 1).outstanding + count ≤ channel_size }
         requires running { self.old.faulted ≡ false }
         ensures sent { sending status 1 count self.old ≡ record { after = self.new; act = act_of result } }
         ensures bytes { HasBytes result }
@@ -397,12 +405,4 @@ fn load(alloc: Global, size: u32, image: &[u8]) -> Result<Ground, NoMemory>
     let mut ground = Ground::new(alloc, &[size])?;
     ground.put(0, 0, image);
     Ok(ground)
-}
-
-/// BO of the ESR, for a little-endian page.
-fn order_syndrome(little: bool) -> u32
-    ensures value { result ≡ order_syndrome little }
-    ensures bound { result ≤ 0x0002_0000 }
-{
-    if little { BYTE_ORDER } else { 0 }
 }

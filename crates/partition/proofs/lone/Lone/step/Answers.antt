@@ -1,7 +1,7 @@
 use Rattle.std.proofs.Common.{◌≡◌, ap, sym, ◌∙◌, arith}
 use Rattle.std.proofs.lemmas.Grind.{common_steps}
 use Rattle.partition.specs.Step.{acted, not_built}
-use Rattle.partition.specs.declared.event.LoneStep.TheVariants.{NotBuilt}
+use Rattle.partition.specs.declared.event.LoneStep.TheVariants as code
 use Rattle.partition.proofs.Calls.{told_unbuilt}
 use Rattle.partition.proofs.Steps.{step_unbuilt, step_done, counted_on, taken_back}
 use Rattle.partition.proofs.lone.Lone.step.Goals as goal
@@ -20,7 +20,7 @@ returns-in_default-clause-counted c =
     counted_on c.act.result c.args.self.now c.begin.new.self c.act.new.self c.in_default.not-NotBuilt c.begin.ensures.steps c.act.ensures.kept
 
 pub returns-in-NotBuilt-clause-unbuilt : goal.returns-in-NotBuilt-clause-unbuilt
-returns-in-NotBuilt-clause-unbuilt c = told_unbuilt NotBuilt c.args.self.now c.take_back.new.self (returns-in-NotBuilt-clause-stepped c)
+returns-in-NotBuilt-clause-unbuilt c = told_unbuilt code.NotBuilt c.args.self.now c.take_back.new.self (returns-in-NotBuilt-clause-stepped c)
 
 pub returns-in_default-clause-unbuilt : goal.returns-in_default-clause-unbuilt
 returns-in_default-clause-unbuilt c = told_unbuilt c.act.result c.args.self.now c.act.new.self (returns-in_default-clause-stepped c)
