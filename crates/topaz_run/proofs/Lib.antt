@@ -1,5 +1,6 @@
+pub mod Choices
+pub mod Plans
+pub mod Lines
 pub mod Spellings
 pub mod Turns
-pub mod LongFiles
-pub mod Images
 pub mod Blobs

@@ -1,16 +1,29 @@
--- What an answer of the top call says of the outcome.
-use Rattle.std.specs.Prelude.{◌≡◌, ℕ, ⊤, Bool, true, List, Option}
+-- What the answers of a command and of the top call say of the outcome.
+use Rattle.std.specs.Prelude.{◌≡◌, ℕ, ◌≤◌, ⊤, Bool, true, List, length, Option, Some, Result, Ok, Err}
 use Rattle.std.specs.Io.KnownBytes.{Keeps, Appends}
 use Rattle.topaz_run.specs.declared.status.Status.{Status}
 use Rattle.topaz_run.specs.declared.status.Status.TheVariants as status
-use Rattle.topaz_run.specs.declared.status.Answer.{Answer}
-use Rattle.topaz_run.specs.declared.status.Answer.TheVariants as answer
-use Rattle.topaz_run.specs.Outcome.{Outcome, Misused, Lacking, Refused, Done}
+use Rattle.topaz_run.specs.declared.status.Stop.{Stop}
+use Rattle.topaz_run.specs.declared.status.Stop.TheVariants as stop
+use Rattle.outside.specs.Limit.{file_limit}
+use Rattle.outside.specs.Content.{Content, file_of}
+use Rattle.topaz_run.specs.Plan.{Outcome, Misused, Lacking, Refused, Done}
 
--- the outcome that an answer of a command is
-abbrev pub answered : Answer → Outcome
-answered (answer.Refused text) = Refused text.items
-answered (answer.Done text) = Done text.items
+-- an early end of a command is the outcome's refusal, but for a fault and want of memory
+abbrev pub Stops : Stop → Outcome → Type 0
+Stops (stop.Refused text) outcome = outcome ≡ Refused text
+Stops stop.ReadFault outcome = ⊤
+Stops stop.NoMemory outcome = ⊤
+
+-- what a command answers is the outcome: the bytes of what was done, or an early end
+abbrev pub Meets : Result (List ℕ) Stop → Outcome → Type 0
+Meets (Ok bytes) outcome = outcome ≡ Done bytes
+Meets (Err stop) outcome = Stops stop outcome
+
+-- a file was read: it has these bytes, no more than the limit
+pub record IsRead (content : Content) (name bytes : List ℕ) : Type 0 where
+  pub is : file_of content name ≡ Some bytes
+  pub short : length bytes ≤ file_limit
 
 -- The status is that of the outcome, and the taken bytes grew by its text. Nothing is said where a file or the sink failed, or
 -- memory ran out.

@@ -1,7 +1,9 @@
 pub mod Number
 pub mod Text
+pub mod Gathered
 pub mod Words
 pub mod Meant
 pub mod Report
+pub mod Plan
 pub mod Outcome
 pub mod Answers

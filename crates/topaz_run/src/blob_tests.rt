@@ -7,7 +7,7 @@ use outside::{Bytes, MemFiles, MemSink, NamedFile, NoMemory};
 use std::alloc::Global;
 use std::test::Fail;
 
-// The blob of a root without properties.
+/// The blob of a root without properties.
 const SMALLEST: [u32; 18] = [
     0xD00D_FEED,
     72,
@@ -29,8 +29,8 @@ const SMALLEST: [u32; 18] = [
     9,
 ];
 
-// The words of blobs of a root with the properties `areg` and `reg`, before the strings. In the first, a NOP
-// stands before the first property, and `reg` is the end of `areg`; the strings have five bytes.
+/// The words of blobs of a root with the properties `areg` and `reg`, before the strings. In the first, a NOP
+/// stands before the first property, and `reg` is the end of `areg`; the strings have five bytes.
 const SHARED: [u32; 25] = [
     0xD00D_FEED,
     105,
@@ -59,7 +59,7 @@ const SHARED: [u32; 25] = [
     9,
 ];
 
-// In the second, NOPs stand everywhere, and the block has a word behind its end.
+/// In the second, NOPs stand everywhere, and the block has a word behind its end.
 const NOPS: [u32; 30] = [
     0xD00D_FEED,
     125,
@@ -93,7 +93,7 @@ const NOPS: [u32; 30] = [
     4,
 ];
 
-// The canonical one of both; its strings have nine bytes.
+/// The canonical one of both; its strings have nine bytes.
 const CANONICAL: [u32; 24] = [
     0xD00D_FEED,
     105,
@@ -121,7 +121,7 @@ const CANONICAL: [u32; 24] = [
     9,
 ];
 
-// A root with a child `a` and a property behind it; the strings have five bytes.
+/// A root with a child `a` and a property behind it; the strings have five bytes.
 const PROPERTY_BEHIND: [u32; 24] = [
     0xD00D_FEED,
     101,
@@ -149,7 +149,7 @@ const PROPERTY_BEHIND: [u32; 24] = [
     9,
 ];
 
-// The words before and behind one long value of the property `areg`, to which the empty `reg` comes.
+/// The words before and behind one long value of the property `areg`, to which the empty `reg` comes.
 const BEFORE_A_VALUE: [u32; 14] = [0xD00D_FEED, 0, 56, 0, 40, 17, 16, 0, 5, 0, 0, 0, 0, 0];
 
 fn push_words(blob: &mut Vec<u8>, words: &[u32]) -> Result<(), NoMemory> {
@@ -166,7 +166,7 @@ fn blob_of(alloc: Global, words: &[u32], strings: &[u8]) -> Result<Vec<u8>, NoMe
     Ok(blob)
 }
 
-// The blob of `areg` with so many zeros, a multiple of 4, and of `reg`.
+/// The blob of `areg` with so many zeros, a multiple of 4, and of `reg`.
 fn long_blob(alloc: Global, zeros: u32) -> Result<Vec<u8>, NoMemory>
     requires { zeros ≤ 16777216 }
 {
@@ -182,7 +182,7 @@ fn long_blob(alloc: Global, zeros: u32) -> Result<Vec<u8>, NoMemory>
     Ok(blob)
 }
 
-// What `dtb` answers, and what it writes.
+/// What `dtb` answers, and what it writes.
 fn dtb(alloc: Global, blob: Vec<u8>) -> Result<(Status, MemSink), NoMemory> {
     let mut list = Vec::new(alloc);
     list.push(NamedFile {
@@ -265,7 +265,7 @@ fn broken_blobs_are_refused_at_their_word(rt: HostRuntime) -> Result<(), Fail> {
     Ok(())
 }
 
-// The long blob has 101 bytes beside its zeros, and its canonical one four more.
+/// The long blob has 101 bytes beside its zeros, and its canonical one four more.
 #[test]
 fn blobs_that_grow_too_large_are_refused(rt: HostRuntime) -> Result<(), Fail> {
     let alloc = rt.alloc();

@@ -1,3 +1,5 @@
+//! What can be asked for.
+
 /// What the words ask for.
 #[derive(Clone, Copy)]
 pub enum Command<'a> {

@@ -1,3 +1,5 @@
+//! The end of a command: its text goes to the sink.
+
 ghost use Rattle.std.specs.Prelude.{◌≡◌, ℕ, ◌≤◌, true, length, IsOk, OnOk, OnErr};
 ghost use Rattle.std.specs.Io.KnownBytes.{Appends};
 ghost use Rattle.outside.specs.Fault.{Rose};
@@ -5,7 +7,7 @@ ghost use Rattle.outside.specs.Taken.{AppendsFront};
 
 use outside::{Failed, Sink, write_all};
 
-// Writes the text whole and flushes it.
+/// Writes the text whole and flushes it.
 pub fn deliver<S: Sink>(out: &mut S, text: &[u8]) -> Result<(), Failed>
     ensures whole { OnOk result (Appends (S.taken out.old) (S.taken out.new) text.now) }
     ensures flushed { OnOk result (S.is_flushed out.new ≡ true) }

@@ -1,10 +1,12 @@
+//! Numbers as words of the command line.
+
 ghost use Rattle.std.specs.Prelude.{◌≡◌, ◌≤◌, IfSome, decimal};
 ghost use Rattle.std.specs.Str.{bytes_eq};
 ghost use Rattle.topaz_run.specs.Number.{number_of};
 
 use itoa::Buffer;
 
-// The number that the text spells, without a sign or a leading zero, where it is at most that large.
+/// The number that the text spells, without a sign or a leading zero, where it is at most that large.
 pub fn number(text: &str, most: u64) -> Option<u64>
     ensures meant { result ≡ number_of most text.now }
     ensures limit { IfSome result (λ number. number ≤ most) }

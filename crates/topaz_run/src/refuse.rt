@@ -1,33 +1,36 @@
-ghost use Rattle.std.specs.Prelude.{◌≡◌, IfOk, IfErr};
-ghost use Rattle.topaz_run.specs.Outcome.{Refused, blob_rule};
-ghost use Rattle.topaz_run.specs.Text.{refused_line};
-ghost use Rattle.topaz_run.specs.Answers.{answered};
+//! Refusals, as early ends of a command.
 
-use crate::status::{Answer, Stop};
-use crate::text::{push_refused, push_refused_blob};
-use outside::NoMemory;
+ghost use Rattle.std.specs.Prelude.{◌≡◌, ◌≢◌};
+ghost use Rattle.topaz_run.specs.Plan.{refusal};
+ghost use Rattle.topaz_run.specs.Outcome.{blob_rule};
+ghost use Rattle.topaz_run.specs.Answers.{Stops};
+
+use crate::gathered::Gathered;
+use crate::status::Stop;
+use crate::text::{write_refused, write_refused_blob};
+use outside::Failed;
 use std::alloc::Global;
 
-// The answer that the rule is broken at the place.
-pub fn refuse(alloc: Global, rule: &str, place: &str) -> Result<Answer, Stop>
-    ensures answer { IfOk result (λ answer. Refused (refused_line rule.now place.now) ≡ answered answer) }
-    ensures memory { IfErr result (λ stop. stop ≡ Stop.NoMemory) }
+/// The rule is broken at the place.
+pub fn refused(alloc: Global, rule: &str, place: &str) -> Stop
+    ensures refusal { Stops result (refusal rule.now place.now) }
+    ensures no_fault { result ≢ Stop.ReadFault }
 {
-    let mut text = String::new(alloc);
-    match push_refused(&mut text, rule, place) {
-        Ok(()) => Ok(Answer::Refused(text.into_bytes())),
-        Err(NoMemory) => Err(Stop::NoMemory),
+    let mut text = Gathered::new(alloc);
+    match write_refused(&mut text, rule.as_bytes(), place.as_bytes()) {
+        Ok(()) => Stop::Refused(text.into_bytes()),
+        Err(Failed) => Stop::NoMemory,
     }
 }
 
-// The answer that the blob in the file breaks its rule of that number.
-pub fn refuse_blob(alloc: Global, rule: u8, file: &str) -> Result<Answer, Stop>
-    ensures answer { IfOk result (λ answer. Refused (refused_line (blob_rule rule) file.now) ≡ answered answer) }
-    ensures memory { IfErr result (λ stop. stop ≡ Stop.NoMemory) }
+/// The blob in the file breaks its rule of that number.
+pub fn refused_blob(alloc: Global, rule: u8, file: &str) -> Stop
+    ensures refusal { Stops result (refusal (blob_rule rule) file.now) }
+    ensures no_fault { result ≢ Stop.ReadFault }
 {
-    let mut text = String::new(alloc);
-    match push_refused_blob(&mut text, rule, file) {
-        Ok(()) => Ok(Answer::Refused(text.into_bytes())),
-        Err(NoMemory) => Err(Stop::NoMemory),
+    let mut text = Gathered::new(alloc);
+    match write_refused_blob(&mut text, rule, file.as_bytes()) {
+        Ok(()) => Stop::Refused(text.into_bytes()),
+        Err(Failed) => Stop::NoMemory,
     }
 }

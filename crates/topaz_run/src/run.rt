@@ -1,34 +1,35 @@
-ghost use Rattle.std.specs.Prelude.{◌≡◌, ◌≤◌, length, IfOk};
-ghost use Rattle.topaz_run.specs.Report.{run, fresh};
-ghost use Rattle.topaz_run.specs.Meant.{ran};
+//! The run of the built-in machine.
 
-use crate::report::Report;
+ghost use Rattle.std.specs.Prelude.{◌≡◌, ◌≢◌, ◌≤◌, length, IfErr};
+ghost use Rattle.partition.specs.Machine.{memory_size};
+ghost use Rattle.topaz_run.specs.Words.{most_turns};
+ghost use Rattle.topaz_run.specs.Report.{run, fresh};
+ghost use Rattle.topaz_run.specs.Outcome.{reported};
+ghost use Rattle.topaz_run.specs.Answers.{Meets};
+
+use crate::gathered::Gathered;
+use crate::status::Stop;
 use crate::world::World;
-use outside::NoMemory;
+use outside::Bytes;
 use std::alloc::Global;
 
-// Runs the built-in machine with the image for so many turns.
-pub fn run(alloc: Global, image: &[u8], turns: u64) -> Result<Report, NoMemory>
-    requires fits { length image.now ≤ 65536 }
-    requires few { turns ≤ 1000000000000 }
-    ensures { IfOk result (λ report. ran report ≡ run turns (fresh image.now)) }
+/// Runs the built-in machine with the image for so many turns, and answers all that is written of it.
+pub fn run(alloc: Global, image: &[u8], turns: u64) -> Result<Bytes, Stop>
+    requires fits { length image.now ≤ memory_size }
+    requires few { turns ≤ most_turns }
+    ensures answer { let whole = run turns (fresh image.now) in Meets result (reported whole.is_built whole.text) }
+    ensures no_fault { IfErr result (λ stop. stop ≢ Stop.ReadFault) }
 {
     let mut world = World::new(alloc, image)?;
-    let mut text = String::new(alloc);
+    let mut text = Gathered::new(alloc);
     for _turn in 0..turns {
         if world.has_stopped() {
             break;
         }
-        if !world.turn(alloc, &mut text)? {
-            return Ok(Report {
-                is_built: false,
-                text,
-            });
+        if !world.turn(&mut text)? {
+            return Err(Stop::Refused(text.into_bytes()));
         }
     }
-    world.push_end(&mut text)?;
-    Ok(Report {
-        is_built: true,
-        text,
-    })
+    world.write_end(&mut text)?;
+    Ok(text.into_bytes())
 }

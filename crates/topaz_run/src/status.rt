@@ -1,3 +1,7 @@
+//! How calls end.
+
+use outside::{Bytes, Failed, NoMemory};
+
 /// How a call of `topaz` ended.
 #[derive(Clone, Copy, Debug, PartialEq, Eq)]
 pub enum Status {
@@ -15,16 +19,36 @@ pub enum Status {
     NoMemory,
 }
 
-/// What a command answers: a text that ends with a refusal, or the bytes of what was done.
+/// Why a command ends early.
 #[derive(Drop)]
-pub enum Answer {
-    Refused(Vec<u8>),
-    Done(Vec<u8>),
+pub enum Stop {
+    /// A rule is broken; the text ends with its line.
+    Refused(Bytes),
+    /// A file can't be opened or read.
+    ReadFault,
+    /// There was no memory.
+    NoMemory,
 }
 
-/// Why a command answers nothing.
-#[derive(Clone, Copy, Debug, PartialEq, Eq)]
-pub enum Stop {
-    ReadFault,
-    NoMemory,
+impl From<NoMemory> for Stop {
+    ghost use Rattle.std.specs.Prelude.{◌≡◌};
+    ghost use Rattle.topaz_run.specs.declared.status.Stop.TheVariants.{NoMemory as no_memory};
+
+    ghost from_gives = { λ _ stop. stop ≡ no_memory };
+
+    fn from(_error: NoMemory) -> Stop {
+        Stop::NoMemory
+    }
+}
+
+/// Text is gathered in memory, so that a sink that fails has none left.
+impl From<Failed> for Stop {
+    ghost use Rattle.std.specs.Prelude.{◌≡◌};
+    ghost use Rattle.topaz_run.specs.declared.status.Stop.TheVariants.{NoMemory as no_memory};
+
+    ghost from_gives = { λ _ stop. stop ≡ no_memory };
+
+    fn from(_error: Failed) -> Stop {
+        Stop::NoMemory
+    }
 }

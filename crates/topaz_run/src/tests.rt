@@ -5,7 +5,7 @@ use outside::{Bytes, MemFiles, MemSink, NamedFile, NoMemory, SureFiles};
 use std::alloc::{AllocError, Global};
 use std::test::Fail;
 
-// Seven words: send "Hi" on handle 1, then stay.
+/// Seven words: send "Hi" on handle 1, then stay.
 const HELLO: [u32; 7] = [
     0x3D60_0001,
     0x616B_0001,
@@ -18,7 +18,7 @@ const HELLO: [u32; 7] = [
 
 const HELLO_TEXT: &str = "guest 6 sent 1 4869\nend guest running 7\nconsole con 2 0 0\n";
 
-// Sends seventeen bytes, which is refused with status 8, and then the status.
+/// Sends seventeen bytes, which is refused with status 8, and then the status.
 const TOO_MANY: [u32; 10] = [
     0x3D60_0001,
     0x616B_0001,
@@ -32,7 +32,7 @@ const TOO_MANY: [u32; 10] = [
     0x4800_0000,
 ];
 
-// Calls by a token that no service has, which is refused with status 12, and then sends the status.
+/// Calls by a token that no service has, which is refused with status 12, and then sends the status.
 const UNLISTED: [u32; 9] = [
     0x3D60_0002,
     0x4400_0022,
@@ -45,7 +45,7 @@ const UNLISTED: [u32; 9] = [
     0x4800_0000,
 ];
 
-// Divides 7 by 0, and sends the quotient.
+/// Divides 7 by 0, and sends the quotient.
 const DIVISION: [u32; 9] = [
     0x3D60_0001,
     0x616B_0001,
@@ -58,7 +58,7 @@ const DIVISION: [u32; 9] = [
     0x4800_0000,
 ];
 
-// Sends the time base, which it reads in its fifth step.
+/// Sends the time base, which it reads in its fifth step.
 const CLOCK: [u32; 7] = [
     0x3D60_0001,
     0x616B_0001,
@@ -69,14 +69,14 @@ const CLOCK: [u32; 7] = [
     0x4800_0000,
 ];
 
-// Loads from behind the memory.
+/// Loads from behind the memory.
 const UNBACKED: [u32; 2] = [0x3C60_0001, 0x8083_0000];
 
-// Asks how many bytes wait, which no service tells yet.
+/// Asks how many bytes wait, which no service tells yet.
 const POLL: [u32; 3] = [0x3D60_0001, 0x616B_0003, 0x4400_0022];
 
-// Has a user program try all that is privileged, and sends how often it was refused and which bits ESR had but that of
-// privilege.
+/// Has a user program try all that is privileged, and sends how often it was refused and which bits ESR had but that of
+/// privilege.
 const REFUSED: [u32; 63] = [
     0x4800_0060, // b 60
     0x6000_0000, // nop
@@ -143,7 +143,7 @@ const REFUSED: [u32; 63] = [
     0x4400_0002, // sc
 ];
 
-// Runs a user program in pages that are translated as they are missed, and sends "Hi" for it: examples/user.
+/// Runs a user program in pages that are translated as they are missed, and sends "Hi" for it: examples/user.
 const USER: [u32; 36] = [
     0x3860_0040, // li r3,64
     0x7C7D_63A6, // mtivor13 r3
@@ -183,7 +183,7 @@ const USER: [u32; 36] = [
     0x4869_0000, // "Hi"
 ];
 
-// Lists of words that are of no form, with bars between the words.
+/// Lists of words that are of no form, with bars between the words.
 const OUT_OF_FORM: [&str; 24] = [
     "dtb",
     "dtb|image|7",

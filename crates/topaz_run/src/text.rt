@@ -1,83 +1,164 @@
-ghost use Rattle.std.specs.Prelude.{◌≡◌, ◌++◌, OnOk, codes, string_bytes};
+//! The lines that are written. Each writer appends one line to a sink, and takes no memory.
+
+ghost use Rattle.std.specs.Prelude.{◌≡◌, ◌≤◌, ◌*◌, length, take, codes};
+ghost use Rattle.hex.specs.Hex.{encode_lower};
+ghost use Rattle.outside.specs.Pieces.{Writes};
 ghost use Rattle.topaz_run.specs.Outcome.{blob_rule};
 ghost use Rattle.topaz_run.specs.Text.{sent_line, faulted_line, state_word, end_line, console_line, refused_line, step_place};
 
-use outside::NoMemory;
-use std::alloc::Global;
+use itoa::Buffer;
+use outside::{Failed, Sink, write_pieces};
 
-// Appends that the partition sent these bytes on the handle, at its own step.
-pub fn push_sent(
-    alloc: Global,
-    text: &mut String,
-    name: &str,
+/// At its own step, the partition sent these bytes, at most sixteen, on the handle.
+pub fn write_sent<S: Sink>(
+    out: &mut S,
+    name: &[u8],
     step: u64,
     handle: u32,
     bytes: &[u8],
-) -> Result<(), NoMemory>
-    ensures { OnOk result (string_bytes text.new ≡ string_bytes text.old ++ sent_line name.now step handle bytes.now) }
+) -> Result<(), Failed>
+    requires { length bytes.now ≤ 16 }
+    ensures { Writes result (S.taken out.old) (S.taken out.new) (S.faults out.old) (S.faults out.new)
+        (sent_line name.now step handle bytes.now) }
 {
-    let hex = hex::encode(alloc, bytes)?;
-    writeln!(text, "{name} {step} sent {handle} {hex}")?;
-    Ok(())
+    let mut step_digits = Buffer::new();
+    let mut handle_digits = Buffer::new();
+    let hex_digits = hex_of(bytes);
+    write_pieces(
+        out,
+        &[
+            name,
+            b" ",
+            step_digits.format(step).as_bytes(),
+            b" sent ",
+            handle_digits.format(handle).as_bytes(),
+            b" ",
+            &hex_digits[..2 * bytes.len()],
+            b"\n",
+        ],
+    )
 }
 
-// Appends that the partition met a machine check that it couldn't take, at its own step.
-pub fn push_faulted(text: &mut String, name: &str, step: u64) -> Result<(), NoMemory>
-    ensures { OnOk result (string_bytes text.new ≡ string_bytes text.old ++ faulted_line name.now step) }
+/// The bytes in hexadecimal, at the front.
+fn hex_of(bytes: &[u8]) -> [u8; 32]
+    requires { length bytes.now ≤ 16 }
+    ensures { take (2 * length bytes.now) result ≡ encode_lower bytes.now }
 {
-    writeln!(text, "{name} {step} faulted")?;
-    Ok(())
+    let mut digits = [0u8; 32];
+    let _fits = hex::encode_to_slice(bytes, &mut digits[..2 * bytes.len()]);
+    digits
 }
 
-// The word for whether a partition runs.
-pub fn state_name(faulted: bool) -> &'static str
+/// At its own step, the partition met a machine check that it couldn't take.
+pub fn write_faulted<S: Sink>(out: &mut S, name: &[u8], step: u64) -> Result<(), Failed>
+    ensures { Writes result (S.taken out.old) (S.taken out.new) (S.faults out.old) (S.faults out.new) (faulted_line name.now step) }
+{
+    let mut digits = Buffer::new();
+    write_pieces(
+        out,
+        &[name, b" ", digits.format(step).as_bytes(), b" faulted\n"],
+    )
+}
+
+/// The word for whether a partition runs.
+pub fn state_name(faulted: bool) -> &'static [u8]
     ensures { result.now ≡ state_word faulted }
 {
-    if faulted { "faulted" } else { "running" }
+    if faulted { b"faulted" } else { b"running" }
 }
 
-// Appends the state of the partition after so many own steps.
-pub fn push_end(text: &mut String, name: &str, state: &str, steps: u64) -> Result<(), NoMemory>
-    ensures { OnOk result (string_bytes text.new ≡ string_bytes text.old ++ end_line name.now state.now steps) }
+/// The state of the partition after so many own steps.
+pub fn write_end<S: Sink>(out: &mut S, name: &[u8], state: &[u8], steps: u64) -> Result<(), Failed>
+    ensures { Writes result (S.taken out.old) (S.taken out.new) (S.faults out.old) (S.faults out.new)
+        (end_line name.now state.now steps) }
 {
-    writeln!(text, "end {name} {state} {steps}")?;
-    Ok(())
+    let mut digits = Buffer::new();
+    write_pieces(
+        out,
+        &[
+            b"end ",
+            name,
+            b" ",
+            state,
+            b" ",
+            digits.format(steps).as_bytes(),
+            b"\n",
+        ],
+    )
 }
 
-// Appends how many bytes the console printed, how many entered it and how many wait.
-pub fn push_console(
-    text: &mut String,
-    name: &str,
+/// How many bytes the console printed, how many entered it and how many wait.
+pub fn write_console<S: Sink>(
+    out: &mut S,
+    name: &[u8],
     printed: u64,
     entered: u64,
     waiting: u64,
-) -> Result<(), NoMemory>
-    ensures { OnOk result (string_bytes text.new ≡ string_bytes text.old ++ console_line name.now printed entered waiting) }
+) -> Result<(), Failed>
+    ensures { Writes result (S.taken out.old) (S.taken out.new) (S.faults out.old) (S.faults out.new)
+        (console_line name.now printed entered waiting) }
 {
-    writeln!(text, "console {name} {printed} {entered} {waiting}")?;
-    Ok(())
+    let mut printed_digits = Buffer::new();
+    let mut entered_digits = Buffer::new();
+    let mut waiting_digits = Buffer::new();
+    write_pieces(
+        out,
+        &[
+            b"console ",
+            name,
+            b" ",
+            printed_digits.format(printed).as_bytes(),
+            b" ",
+            entered_digits.format(entered).as_bytes(),
+            b" ",
+            waiting_digits.format(waiting).as_bytes(),
+            b"\n",
+        ],
+    )
 }
 
-// Appends that the rule is broken at the place.
-pub fn push_refused(text: &mut String, rule: &str, place: &str) -> Result<(), NoMemory>
-    ensures { OnOk result (string_bytes text.new ≡ string_bytes text.old ++ refused_line rule.now place.now) }
+/// The rule is broken at the place.
+pub fn write_refused<S: Sink>(out: &mut S, rule: &[u8], place: &[u8]) -> Result<(), Failed>
+    ensures { Writes result (S.taken out.old) (S.taken out.new) (S.faults out.old) (S.faults out.new)
+        (refused_line rule.now place.now) }
 {
-    writeln!(text, "refused {rule} at {place}")?;
-    Ok(())
+    write_pieces(out, &[b"refused ", rule, b" at ", place, b"\n"])
 }
 
-// Appends that the blob in the file breaks its rule of that number.
-pub fn push_refused_blob(text: &mut String, rule: u8, file: &str) -> Result<(), NoMemory>
-    ensures { OnOk result (string_bytes text.new ≡ string_bytes text.old ++ refused_line (blob_rule rule) file.now) }
+/// The blob in the file breaks its rule of that number.
+pub fn write_refused_blob<S: Sink>(out: &mut S, rule: u8, file: &[u8]) -> Result<(), Failed>
+    ensures { Writes result (S.taken out.old) (S.taken out.new) (S.faults out.old) (S.faults out.new)
+        (refused_line (blob_rule rule) file.now) }
 {
-    writeln!(text, "refused B{rule} at {file}")?;
-    Ok(())
+    let mut digits = Buffer::new();
+    write_pieces(
+        out,
+        &[
+            b"refused ",
+            b"B",
+            digits.format(rule).as_bytes(),
+            b" at ",
+            file,
+            b"\n",
+        ],
+    )
 }
 
-// Appends that the partition's own step of that number can't be done.
-pub fn push_not_built(text: &mut String, step: u64) -> Result<(), NoMemory>
-    ensures { OnOk result (string_bytes text.new ≡ string_bytes text.old ++ refused_line (codes "N1") (step_place step)) }
+/// The partition's own step of that number can't be done.
+pub fn write_not_built<S: Sink>(out: &mut S, step: u64) -> Result<(), Failed>
+    ensures { Writes result (S.taken out.old) (S.taken out.new) (S.faults out.old) (S.faults out.new)
+        (refused_line (codes "N1") (step_place step)) }
 {
-    writeln!(text, "refused N1 at step {step}")?;
-    Ok(())
+    let mut digits = Buffer::new();
+    write_pieces(
+        out,
+        &[
+            b"refused ",
+            b"N1",
+            b" at ",
+            b"step ",
+            digits.format(step).as_bytes(),
+            b"\n",
+        ],
+    )
 }

@@ -1,18 +1,21 @@
+//! The top call.
+
 ghost use Rattle.std.specs.Prelude.{◌≡◌, ◌≢◌, ℕ, ◌≤◌, ◌↔◌, ◌⊎◌, List, map, length, None, IsErrOf, IfOk, IfSome, MatchResult, string_bytes, Contains};
 ghost use Rattle.outside.specs.Fault.{Rose};
 ghost use Rattle.outside.specs.Taken.{AppendsFront};
 ghost use Rattle.topaz_run.specs.Words.{KeepsLimits, command_of};
-ghost use Rattle.topaz_run.specs.Outcome.{Done, outcome, outcome_of, needs, needs_of, text_of};
-ghost use Rattle.topaz_run.specs.Answers.{Tells, Flushes, LeavesSink, answered};
+ghost use Rattle.topaz_run.specs.Plan.{Done, outcome_of, needs_of};
+ghost use Rattle.topaz_run.specs.Outcome.{plan_of, outcome, needs, text_of};
+ghost use Rattle.topaz_run.specs.Answers.{Tells, Flushes, LeavesSink, Meets};
 ghost use Rattle.topaz_run.specs.Meant.{meant};
 
 use crate::bare::bare;
 use crate::command::Command;
 use crate::deliver::deliver;
 use crate::dtb::dtb;
-use crate::status::{Answer, Status, Stop};
+use crate::status::{Status, Stop};
 use crate::words::command;
-use outside::{Failed, Files, Sink};
+use outside::{Bytes, Failed, Files, Sink};
 use std::alloc::Global;
 
 /// Does what the words ask for.
@@ -50,21 +53,20 @@ pub fn topaz<F: Files, S: Sink>(
         return Status::Usage;
     };
     match answer(alloc, command, files) {
-        Ok(Answer::Done(text)) => status_of(deliver(out, text.as_slice()), Status::Ok),
-        Ok(Answer::Refused(text)) => status_of(deliver(out, text.as_slice()), Status::Refused),
+        Ok(text) => status_of(deliver(out, text.as_slice()), Status::Ok),
+        Err(Stop::Refused(text)) => status_of(deliver(out, text.as_slice()), Status::Refused),
         Err(Stop::ReadFault) => Status::ReadFault,
         Err(Stop::NoMemory) => Status::NoMemory,
     }
 }
 
-// Does the command, up to the writing.
-fn answer<F: Files>(alloc: Global, command: Command<'_>, files: &mut F) -> Result<Answer, Stop>
+/// Does the command, up to the writing.
+fn answer<F: Files>(alloc: Global, command: Command<'_>, files: &mut F) -> Result<Bytes, Stop>
     requires { KeepsLimits (meant command) }
-    ensures answer { IfOk result (λ answer. IfSome (F.content files.old) (λ content.
-        outcome_of (meant command.entry) content ≡ answered answer)) }
+    ensures answer { IfSome (F.content files.old) (λ content. Meets result (outcome_of content (plan_of (meant command.entry)))) }
     ensures read_fault { IsErrOf result Stop.ReadFault → Rose (F.faults files.old) (F.faults files.new) }
     ensures needed { IsErrOf result Stop.ReadFault → IfSome (F.content files.old) (λ content.
-        Contains (needs_of (meant command.entry) content) (F.blamed files.new)) }
+        Contains (needs_of content (plan_of (meant command.entry))) (F.blamed files.new)) }
     ensures counted { F.faults files.old ≤ F.faults files.new }
 {
     match command {
@@ -73,7 +75,7 @@ fn answer<F: Files>(alloc: Global, command: Command<'_>, files: &mut F) -> Resul
     }
 }
 
-// What a delivery makes of the status.
+/// What a delivery makes of the status.
 fn status_of(delivered: Result<(), Failed>, status: Status) -> Status
     ensures { MatchResult delivered (λ _. result ≡ status) (λ _. result ≡ Status.WriteFault) }
 {

@@ -1,3 +1,5 @@
+//! The words of the command line.
+
 ghost use Rattle.std.specs.Prelude.{◌≡◌, map, IfSome, MatchOption, Some, None, string_bytes};
 ghost use Rattle.topaz_run.specs.Words.{KeepsLimits, command_of};
 ghost use Rattle.topaz_run.specs.Meant.{meant};
@@ -5,10 +7,10 @@ ghost use Rattle.topaz_run.specs.Meant.{meant};
 use crate::command::Command;
 use crate::number::number;
 
-// How many turns may be asked for.
+/// How many turns may be asked for.
 const MOST_TURNS: u64 = 1_000_000_000_000;
 
-// The command that the words ask for, if they are of a form.
+/// The command that the words ask for, if they are of a form.
 pub fn command<'a>(words: &'a [String]) -> Option<Command<'a>>
     ensures meant { MatchOption result (command_of (map string_bytes words.now) ≡ None)
         (λ command. command_of (map string_bytes words.now) ≡ Some (meant command)) }

@@ -1,19 +1,27 @@
-ghost use Rattle.std.specs.Prelude.{◌≡◌, ℕ, ◌<◌, ◌≤◌, ◌+◌, ◌++◌, IsTrue, OnOk, IfOk, length, string_bytes};
+//! The built-in partition and its console, turn by turn.
+
+ghost use Rattle.std.specs.Prelude.{◌≡◌, ℕ, ◌<◌, ◌≤◌, ◌+◌, ◌*◌, IfOk, length};
+ghost use Rattle.outside.specs.Pieces.{Writes};
+ghost use Rattle.partition.specs.Machine.{memory_size};
+ghost use Rattle.partition.specs.Event.{apply};
+ghost use Rattle.topaz_run.specs.Words.{most_turns};
 ghost use Rattle.topaz_run.specs.Report.{turn, end_lines, fresh};
 
-use crate::text::{push_console, push_end, push_faulted, push_not_built, push_sent, state_name};
-use outside::NoMemory;
+use crate::text::{
+    state_name, write_console, write_end, write_faulted, write_not_built, write_sent,
+};
+use outside::{Failed, NoMemory, Sink};
 use partition::{Event, Lone, LoneStep};
 use std::alloc::Global;
 use std::marker::Model;
 
-// The name of the built-in partition.
-const GUEST: &str = "guest";
+/// The name of the built-in partition.
+const GUEST: &[u8] = b"guest";
 
-// The name of its console.
-const CON: &str = "con";
+/// The name of its console.
+const CON: &[u8] = b"con";
 
-// The built-in partition and the console that its handle 1 leads to.
+/// The built-in partition and the console that its handle 1 leads to.
 #[derive(Drop)]
 pub struct World {
     machine: Lone,
@@ -33,10 +41,10 @@ impl Model for World {
 }
 
 impl World {
-    // The machine with the image, before the first turn.
+    /// The machine with the image, before the first turn.
     #[tactic(auto, unfolding(crate::specs::Report::fresh))]
     pub fn new(alloc: Global, image: &[u8]) -> Result<World, NoMemory>
-        requires { length image.now ≤ 65536 }
+        requires { length image.now ≤ memory_size }
         ensures fresh { IfOk result (λ world. world ≡ fresh image.now) }
         ensures uncounted { IfOk result (λ world. world.machine.steps ≡ 0) }
     {
@@ -46,21 +54,21 @@ impl World {
         })
     }
 
-    // Whether the partition has stopped, so that every further turn passes.
+    /// Whether the partition has stopped, so that every further turn passes.
     pub fn has_stopped(&self) -> bool
         ensures { result ≡ self.now.machine.faulted }
     {
         self.machine.faulted()
     }
 
-    // Does a turn, appends its line, and says whether its step is built.
+    /// Does a turn, writes its line, and says whether its step is built. The turn is done whole, also where the sink fails.
     #[tactic(auto, unfolding(crate::specs::Report::turn))]
-    pub fn turn(&mut self, alloc: Global, text: &mut String) -> Result<bool, NoMemory>
-        requires { self.old.machine.steps < 1000000000000 }
+    pub fn turn<S: Sink>(&mut self, out: &mut S) -> Result<bool, Failed>
+        requires { self.old.machine.steps < most_turns }
         ensures built { IfOk result (λ built. built ≡ (turn self.old).is_built) }
-        ensures after { OnOk result (self.new ≡ (turn self.old).after) }
-        ensures line { OnOk result (string_bytes text.new ≡ string_bytes text.old ++ (turn self.old).line) }
-        ensures counted { IfOk result (λ built. IsTrue built → self.new.machine.steps ≤ self.old.machine.steps + 1) }
+        ensures after { self.new ≡ (turn self.old).after }
+        ensures line { Writes result (S.taken out.old) (S.taken out.new) (S.faults out.old) (S.faults out.new) (turn self.old).line }
+        ensures counted { self.new.machine.steps ≤ self.old.machine.steps + 1 }
     {
         if self.machine.faulted() {
             return Ok(true);
@@ -68,43 +76,47 @@ impl World {
         match self.machine.step() {
             LoneStep::Quiet => Ok(true),
             LoneStep::Sent(bytes) => {
-                let count = bytes.len();
-                push_sent(
-                    alloc,
-                    text,
-                    GUEST,
-                    self.machine.steps(),
-                    1,
-                    bytes.as_slice(),
-                )?;
-                self.printed += count as u64;
-                self.machine.apply(Event::Room {
-                    handle: 1,
-                    count: count as u16,
-                });
+                let step = self.machine.steps();
+                self.print(bytes.len());
+                write_sent(out, GUEST, step, 1, bytes.as_slice())?;
                 Ok(true)
             }
             LoneStep::Faulted => {
-                push_faulted(text, GUEST, self.machine.steps())?;
+                write_faulted(out, GUEST, self.machine.steps())?;
                 Ok(true)
             }
             LoneStep::NotBuilt => {
-                push_not_built(text, self.machine.steps() + 1)?;
+                write_not_built(out, self.machine.steps() + 1)?;
                 Ok(false)
             }
         }
     }
 
-    // Appends the lines after the last turn.
-    pub fn push_end(&self, text: &mut String) -> Result<(), NoMemory>
-        ensures { OnOk result (string_bytes text.new ≡ string_bytes text.old ++ end_lines self.now) }
+    /// The console prints so many bytes, and takes them from the channel at the end of the turn.
+    fn print(&mut self, count: usize)
+        requires few { count ≤ 16 }
+        requires sent { self.old.printed + count ≤ 16 * self.old.machine.steps }
+        requires early { self.old.machine.steps ≤ most_turns }
+        ensures printed { self.new ≡ record { machine = apply self.old.machine (Event.Room 1 count); printed = self.old.printed + count } }
+        ensures steps { self.new.machine.steps ≡ self.old.machine.steps }
     {
-        push_end(
-            text,
+        self.printed += count as u64;
+        self.machine.apply(Event::Room {
+            handle: 1,
+            count: count as u16,
+        });
+    }
+
+    /// Writes the lines after the last turn.
+    pub fn write_end<S: Sink>(&self, out: &mut S) -> Result<(), Failed>
+        ensures { Writes result (S.taken out.old) (S.taken out.new) (S.faults out.old) (S.faults out.new) (end_lines self.now) }
+    {
+        write_end(
+            out,
             GUEST,
             state_name(self.machine.faulted()),
             self.machine.steps(),
         )?;
-        push_console(text, CON, self.printed, 0, 0)
+        write_console(out, CON, self.printed, 0, 0)
     }
 }
