@@ -44,6 +44,7 @@ fn size_by(kind: Kind, insn: Insn) -> u8
     }
 }
 
+/// The kind of access that is answered.
 fn form_by(kind: Kind, store: bool) -> Form
     ensures { result ≡ form_of kind store }
 {
@@ -88,6 +89,7 @@ fn update(addressing: Addressing, insn: Insn, regs: &mut Regs, address: u32)
     }
 }
 
+/// A word, its most significant byte first.
 fn word_from(bytes: &[u8]) -> u32
     requires { length bytes.now ≡ 4 }
     ensures { result ≡ from_be_bytes w32 bytes.now }
@@ -95,6 +97,7 @@ fn word_from(bytes: &[u8]) -> u32
     u32::from_be_bytes([bytes[0], bytes[1], bytes[2], bytes[3]])
 }
 
+/// A word, its least significant byte first.
 fn reversed_word_from(bytes: &[u8]) -> u32
     requires { length bytes.now ≡ 4 }
     ensures { result ≡ from_le_bytes w32 bytes.now }
@@ -102,6 +105,7 @@ fn reversed_word_from(bytes: &[u8]) -> u32
     u32::from_le_bytes([bytes[0], bytes[1], bytes[2], bytes[3]])
 }
 
+/// A halfword, its most significant byte first.
 fn half_from(bytes: &[u8]) -> u16
     requires { length bytes.now ≡ 2 }
     ensures { result ≡ from_be_bytes w16 bytes.now }
@@ -109,6 +113,7 @@ fn half_from(bytes: &[u8]) -> u16
     u16::from_be_bytes([bytes[0], bytes[1]])
 }
 
+/// A halfword, its least significant byte first.
 fn reversed_half_from(bytes: &[u8]) -> u16
     requires { length bytes.now ≡ 2 }
     ensures { result ≡ from_le_bytes w16 bytes.now }
@@ -177,6 +182,7 @@ fn tell(kind: Kind, regs: &mut Regs, bytes: &[u8])
     }
 }
 
+/// Completes a load or store whose access was made.
 #[tactic(auto, unfolding(crate::specs::Transfers::finished))]
 fn finish(transfer: Transfer, insn: Insn, regs: &mut Regs, bytes: &[u8])
     requires { Finishes transfer.kind transfer.store insn.word bytes.now }
@@ -220,6 +226,7 @@ fn words_of(insn: Insn, regs: &Regs) -> ArrayVec<u8, 128>
     bytes
 }
 
+/// A few bytes, as `stored` gives them.
 fn bytes_of(piece: &[u8]) -> ArrayVec<u8, 128>
     requires { length piece.now ≤ 128 }
     ensures { result.items ≡ piece.now }

@@ -100,6 +100,7 @@ pub fn target_by(insn: Insn, regs: &Regs, displacement: i32) -> u32
     from.wrapping_add(displacement.cast_unsigned())
 }
 
+/// A branch that is always taken.
 #[tactic(auto, unfolding(crate::specs::Rows::branch_row))]
 pub fn branch(insn: Insn, regs: &mut Regs)
     ensures { regs.new ≡ branch_row insn.word regs.old }

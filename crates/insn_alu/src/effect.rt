@@ -1,3 +1,5 @@
+//! What an instruction asks for beside the registers.
+
 /// What kind of access an instruction makes.
 #[derive(Clone, Copy, Debug, PartialEq, Eq)]
 pub enum Form {

@@ -74,6 +74,7 @@ pub fn carry_of(regs: &Regs) -> u32
     regs.xer() / 0x2000_0000 % 2
 }
 
+/// Tells a carry, or none, in CA.
 pub fn set_carry(regs: &mut Regs, value: u32)
     requires { value < 2 }
     ensures { regs.new ≡ with_carry value regs.old }

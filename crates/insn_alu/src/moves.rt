@@ -1,4 +1,4 @@
-//! Loads and stores as data: what they move, and how their address is found.
+//! Which loads and stores there are: what they move, and how their address is found.
 
 ghost use Rattle.std.specs.Prelude.{◌≡◌, Some, true, false};
 ghost use Rattle.insn_alu.specs.Transfers.{load_of, store_of, transfer_of};

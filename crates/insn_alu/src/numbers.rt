@@ -141,12 +141,14 @@ pub fn divide(one: u32, other: u32) -> u32
     if other == 0 { 0 } else { one / other }
 }
 
+/// Shifted left by 0 to 63 places.
 pub fn shift_left(bits: u32, count: u32) -> u32
     ensures { result ≡ shifted_left bits count }
 {
     if count > 31 { 0 } else { bits << count }
 }
 
+/// Shifted right by 0 to 63 places.
 pub fn shift_right(bits: u32, count: u32) -> u32
     ensures { result ≡ shifted_right bits count }
 {
@@ -175,6 +177,7 @@ pub fn shifts_one_out(bits: u32, count: u32) -> bool
     bits >= 0x8000_0000 && (count > 31 || bits as u64 % power(count) != 0)
 }
 
+/// The last byte with copies of its sign before it.
 pub fn extend_byte(bits: u32) -> u32
     ensures { result ≡ extended_byte bits }
 {
@@ -182,6 +185,7 @@ pub fn extend_byte(bits: u32) -> u32
     (byte.cast_signed() as i32).cast_unsigned()
 }
 
+/// The last halfword with copies of its sign before it.
 pub fn extend_half(bits: u32) -> u32
     ensures { result ≡ extended_half bits }
 {

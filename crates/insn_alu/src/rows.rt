@@ -32,6 +32,7 @@ fn carry_out(sum: u64) -> u32
     (sum / 0x1_0000_0000) as u32
 }
 
+/// RT takes a sum of two words and a carry. OV and SO tell whether it fits, where OE is 1.
 #[tactic(auto, unfolding(crate::specs::Rows::sum_row))]
 pub fn add_up(insn: Insn, regs: &mut Regs, left: u32, right: u32, carry: u32)
     requires { carry < 2 }
@@ -41,6 +42,7 @@ pub fn add_up(insn: Insn, regs: &mut Regs, left: u32, right: u32, carry: u32)
     set_arithmetic(insn, regs, sum, sum_overflows(left, right, carry));
 }
 
+/// The same, and CA takes the carry out.
 #[tactic(auto, unfolding(crate::specs::Rows::carrying_row))]
 pub fn add_carrying(insn: Insn, regs: &mut Regs, left: u32, right: u32, carry: u32)
     requires { carry < 2 }
@@ -50,6 +52,7 @@ pub fn add_carrying(insn: Insn, regs: &mut Regs, left: u32, right: u32, carry: u
     add_up(insn, regs, left, right, carry);
 }
 
+/// A register takes such a sum, and CA the carry out, without OE and Rc.
 #[tactic(auto, unfolding(crate::specs::Rows::carrying_in))]
 pub fn carry_in(regs: &mut Regs, number: u8, left: u32, right: u32, carry: u32)
     requires number { number < 32 }
@@ -61,6 +64,7 @@ pub fn carry_in(regs: &mut Regs, number: u8, left: u32, right: u32, carry: u32)
     set_result(regs, number, low_word(sum));
 }
 
+/// The same, and CR0 compares the sum.
 #[tactic(auto, unfolding(crate::specs::Rows::carrying_recorded))]
 pub fn carry_recorded(regs: &mut Regs, number: u8, left: u32, right: u32, carry: u32)
     requires number { number < 32 }

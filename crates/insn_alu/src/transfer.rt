@@ -1,3 +1,5 @@
+//! Loads and stores as data.
+
 /// How the address of a load or store is found.
 #[derive(Clone, Copy, Debug, PartialEq, Eq)]
 pub enum Addressing {

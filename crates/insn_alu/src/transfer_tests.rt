@@ -1,171 +1,374 @@
+//! Loads and stores: their access, what completes them, and what they store.
+
 use super::*;
 use arrayvec::ArrayVec;
 use guest_regs::{Regs, boot};
 use insn::decode;
 use std::test::*;
 
-/// Loads with their address, length and form, and r5 and r3 after the bytes 81, 82, .. came. (r3) is 0x1000, (r4) is
-/// 0x10.
-const LOADS: [(u32, u32, u8, Form, u32, u32); 23] = [
-    (0x80A3_0008, 0x1008, 4, Form::Load, 0x8182_8384, 0x1000), // lwz r5, 8(r3)
-    (0x80A0_FFFC, 0xFFFF_FFFC, 4, Form::Load, 0x8182_8384, 0x1000), // lwz r5, -4(0)
-    (0x84A3_FFFC, 0xFFC, 4, Form::Load, 0x8182_8384, 0xFFC), // lwzu r5, -4(r3)
-    (0x88A3_0001, 0x1001, 1, Form::Load, 0x81, 0x1000), // lbz
-    (0x8CA3_0001, 0x1001, 1, Form::Load, 0x81, 0x1001), // lbzu
-    (0xA0A3_0002, 0x1002, 2, Form::Load, 0x8182, 0x1000), // lhz
-    (0xA4A3_0002, 0x1002, 2, Form::Load, 0x8182, 0x1002), // lhzu
-    (0xA8A3_0002, 0x1002, 2, Form::Load, 0xFFFF_8182, 0x1000), // lha
-    (0xACA3_0002, 0x1002, 2, Form::Load, 0xFFFF_8182, 0x1002), // lhau
-    (0x7CA3_202E, 0x1010, 4, Form::Load, 0x8182_8384, 0x1000), // lwzx r5, r3, r4
-    (0x7CA0_202E, 0x10, 4, Form::Load, 0x8182_8384, 0x1000), // lwzx r5, 0, r4
-    (0x7CA3_206E, 0x1010, 4, Form::Load, 0x8182_8384, 0x1010), // lwzux
-    (0x7CA3_20AE, 0x1010, 1, Form::Load, 0x81, 0x1000), // lbzx
-    (0x7CA3_20EE, 0x1010, 1, Form::Load, 0x81, 0x1010), // lbzux
-    (0x7CA3_222E, 0x1010, 2, Form::Load, 0x8182, 0x1000), // lhzx
-    (0x7CA3_226E, 0x1010, 2, Form::Load, 0x8182, 0x1010), // lhzux
-    (0x7CA3_22AE, 0x1010, 2, Form::Load, 0xFFFF_8182, 0x1000), // lhax
-    (0x7CA3_22EE, 0x1010, 2, Form::Load, 0xFFFF_8182, 0x1010), // lhaux
-    (0x7CA3_242C, 0x1010, 4, Form::Load, 0x8483_8281, 0x1000), // lwbrx
-    (0x7CA3_262C, 0x1010, 2, Form::Load, 0x8281, 0x1000), // lhbrx
-    (0x7CA3_2028, 0x1010, 4, Form::Reserve, 0x8182_8384, 0x1000), // lwarx
-    (0x8463_0004, 0x1004, 4, Form::Load, 0x1111_1111, 0x1004), // lwzu r3, 4(r3): the address comes last
-    (0x84A0_0010, 0x5D, 4, Form::Load, 0x8182_8384, 0x1000), // lwzu r5, 16(r0): (r0) is 77
+/// A load, as an assembler writes it, its access, and r5 and r3 after the bytes 81, 82, .. came.
+#[derive(Clone, Copy)]
+struct Load {
+    text: &'static str,
+    word: u32,
+    ea: u32,
+    len: u8,
+    form: Form,
+    /// (r5) after it.
+    result: u32,
+    /// (r3) after it.
+    base: u32,
+}
+
+/// A load of a word that leaves (r3) 0x1000.
+const LOAD: Load = Load {
+    text: "",
+    word: 0,
+    ea: 0,
+    len: 4,
+    form: Form::Load,
+    result: 0,
+    base: 0x1000,
+};
+
+const LOADS: [Load; 23] = [
+    Load {
+        text: "lwz r5, 8(r3)",
+        word: 0x80A3_0008,
+        ea: 0x1008,
+        result: 0x8182_8384,
+        ..LOAD
+    },
+    Load {
+        text: "lwz r5, -4(0)",
+        word: 0x80A0_FFFC,
+        ea: 0xFFFF_FFFC,
+        result: 0x8182_8384,
+        ..LOAD
+    },
+    Load {
+        text: "lwzu r5, -4(r3)",
+        word: 0x84A3_FFFC,
+        ea: 0xFFC,
+        result: 0x8182_8384,
+        base: 0xFFC,
+        ..LOAD
+    },
+    Load {
+        text: "lbz r5, 1(r3)",
+        word: 0x88A3_0001,
+        ea: 0x1001,
+        len: 1,
+        result: 0x81,
+        ..LOAD
+    },
+    Load {
+        text: "lbzu r5, 1(r3)",
+        word: 0x8CA3_0001,
+        ea: 0x1001,
+        len: 1,
+        result: 0x81,
+        base: 0x1001,
+        ..LOAD
+    },
+    Load {
+        text: "lhz r5, 2(r3)",
+        word: 0xA0A3_0002,
+        ea: 0x1002,
+        len: 2,
+        result: 0x8182,
+        ..LOAD
+    },
+    Load {
+        text: "lhzu r5, 2(r3)",
+        word: 0xA4A3_0002,
+        ea: 0x1002,
+        len: 2,
+        result: 0x8182,
+        base: 0x1002,
+        ..LOAD
+    },
+    Load {
+        text: "lha r5, 2(r3)",
+        word: 0xA8A3_0002,
+        ea: 0x1002,
+        len: 2,
+        result: 0xFFFF_8182,
+        ..LOAD
+    },
+    Load {
+        text: "lhau r5, 2(r3)",
+        word: 0xACA3_0002,
+        ea: 0x1002,
+        len: 2,
+        result: 0xFFFF_8182,
+        base: 0x1002,
+        ..LOAD
+    },
+    Load {
+        text: "lwzx r5, r3, r4",
+        word: 0x7CA3_202E,
+        ea: 0x1010,
+        result: 0x8182_8384,
+        ..LOAD
+    },
+    Load {
+        text: "lwzx r5, 0, r4",
+        word: 0x7CA0_202E,
+        ea: 0x10,
+        result: 0x8182_8384,
+        ..LOAD
+    },
+    Load {
+        text: "lwzux r5, r3, r4",
+        word: 0x7CA3_206E,
+        ea: 0x1010,
+        result: 0x8182_8384,
+        base: 0x1010,
+        ..LOAD
+    },
+    Load {
+        text: "lbzx r5, r3, r4",
+        word: 0x7CA3_20AE,
+        ea: 0x1010,
+        len: 1,
+        result: 0x81,
+        ..LOAD
+    },
+    Load {
+        text: "lbzux r5, r3, r4",
+        word: 0x7CA3_20EE,
+        ea: 0x1010,
+        len: 1,
+        result: 0x81,
+        base: 0x1010,
+        ..LOAD
+    },
+    Load {
+        text: "lhzx r5, r3, r4",
+        word: 0x7CA3_222E,
+        ea: 0x1010,
+        len: 2,
+        result: 0x8182,
+        ..LOAD
+    },
+    Load {
+        text: "lhzux r5, r3, r4",
+        word: 0x7CA3_226E,
+        ea: 0x1010,
+        len: 2,
+        result: 0x8182,
+        base: 0x1010,
+        ..LOAD
+    },
+    Load {
+        text: "lhax r5, r3, r4",
+        word: 0x7CA3_22AE,
+        ea: 0x1010,
+        len: 2,
+        result: 0xFFFF_8182,
+        ..LOAD
+    },
+    Load {
+        text: "lhaux r5, r3, r4",
+        word: 0x7CA3_22EE,
+        ea: 0x1010,
+        len: 2,
+        result: 0xFFFF_8182,
+        base: 0x1010,
+        ..LOAD
+    },
+    Load {
+        text: "lwbrx r5, r3, r4",
+        word: 0x7CA3_242C,
+        ea: 0x1010,
+        result: 0x8483_8281,
+        ..LOAD
+    },
+    Load {
+        text: "lhbrx r5, r3, r4",
+        word: 0x7CA3_262C,
+        ea: 0x1010,
+        len: 2,
+        result: 0x8281,
+        ..LOAD
+    },
+    Load {
+        text: "lwarx r5, r3, r4",
+        word: 0x7CA3_2028,
+        ea: 0x1010,
+        form: Form::Reserve,
+        result: 0x8182_8384,
+        ..LOAD
+    },
+    // the address comes last
+    Load {
+        text: "lwzu r3, 4(r3)",
+        word: 0x8463_0004,
+        ea: 0x1004,
+        result: 0x1111_1111,
+        base: 0x1004,
+        ..LOAD
+    },
+    // (r0) is 77
+    Load {
+        text: "lwzu r5, 16(r0)",
+        word: 0x84A0_0010,
+        ea: 0x5D,
+        result: 0x8182_8384,
+        ..LOAD
+    },
 ];
 
-/// Stores with their address, length and form, what they store, filled up by zeros, and r3 after. (r5) is 0x12345678.
-const STORES: [(u32, u32, u8, Form, [u8; 8], u32); 16] = [
-    (
-        0x90A3_0008,
-        0x1008,
-        4,
-        Form::Store,
-        [0x12, 0x34, 0x56, 0x78, 0, 0, 0, 0],
-        0x1000,
-    ), // stw r5, 8(r3)
-    (
-        0x94A3_FFF0,
-        0xFF0,
-        4,
-        Form::Store,
-        [0x12, 0x34, 0x56, 0x78, 0, 0, 0, 0],
-        0xFF0,
-    ), // stwu r5, -16(r3)
-    (
-        0x98A3_0001,
-        0x1001,
-        1,
-        Form::Store,
-        [0x78, 0, 0, 0, 0, 0, 0, 0],
-        0x1000,
-    ), // stb
-    (
-        0x9CA3_0001,
-        0x1001,
-        1,
-        Form::Store,
-        [0x78, 0, 0, 0, 0, 0, 0, 0],
-        0x1001,
-    ), // stbu
-    (
-        0xB0A3_0002,
-        0x1002,
-        2,
-        Form::Store,
-        [0x56, 0x78, 0, 0, 0, 0, 0, 0],
-        0x1000,
-    ), // sth
-    (
-        0xB4A3_0002,
-        0x1002,
-        2,
-        Form::Store,
-        [0x56, 0x78, 0, 0, 0, 0, 0, 0],
-        0x1002,
-    ), // sthu
-    (
-        0x7CA3_212E,
-        0x1010,
-        4,
-        Form::Store,
-        [0x12, 0x34, 0x56, 0x78, 0, 0, 0, 0],
-        0x1000,
-    ), // stwx
-    (
-        0x7CA3_216E,
-        0x1010,
-        4,
-        Form::Store,
-        [0x12, 0x34, 0x56, 0x78, 0, 0, 0, 0],
-        0x1010,
-    ), // stwux
-    (
-        0x7CA3_21AE,
-        0x1010,
-        1,
-        Form::Store,
-        [0x78, 0, 0, 0, 0, 0, 0, 0],
-        0x1000,
-    ), // stbx
-    (
-        0x7CA3_21EE,
-        0x1010,
-        1,
-        Form::Store,
-        [0x78, 0, 0, 0, 0, 0, 0, 0],
-        0x1010,
-    ), // stbux
-    (
-        0x7CA3_232E,
-        0x1010,
-        2,
-        Form::Store,
-        [0x56, 0x78, 0, 0, 0, 0, 0, 0],
-        0x1000,
-    ), // sthx
-    (
-        0x7CA3_236E,
-        0x1010,
-        2,
-        Form::Store,
-        [0x56, 0x78, 0, 0, 0, 0, 0, 0],
-        0x1010,
-    ), // sthux
-    (
-        0x7CA3_252C,
-        0x1010,
-        4,
-        Form::Store,
-        [0x78, 0x56, 0x34, 0x12, 0, 0, 0, 0],
-        0x1000,
-    ), // stwbrx
-    (
-        0x7CA3_272C,
-        0x1010,
-        2,
-        Form::Store,
-        [0x78, 0x56, 0, 0, 0, 0, 0, 0],
-        0x1000,
-    ), // sthbrx
-    (
-        0x7CA3_212D,
-        0x1010,
-        4,
-        Form::Conditional,
-        [0x12, 0x34, 0x56, 0x78, 0, 0, 0, 0],
-        0x1000,
-    ), // stwcx.
-    (
-        0xBFC3_0000,
-        0x1000,
-        8,
-        Form::Many,
-        [0xA0, 0, 0, 1, 0xB0, 0, 0, 2],
-        0x1000,
-    ), // stmw r30, 0(r3)
+/// A store, as an assembler writes it, its access, what it stores, and r3 after it. (r5) is 0x12345678.
+#[derive(Clone, Copy)]
+struct Store {
+    text: &'static str,
+    word: u32,
+    ea: u32,
+    form: Form,
+    bytes: &'static [u8],
+    /// (r3) after it.
+    base: u32,
+}
+
+/// A store that leaves (r3) 0x1000.
+const STORE: Store = Store {
+    text: "",
+    word: 0,
+    ea: 0,
+    form: Form::Store,
+    bytes: &[],
+    base: 0x1000,
+};
+
+const STORES: [Store; 16] = [
+    Store {
+        text: "stw r5, 8(r3)",
+        word: 0x90A3_0008,
+        ea: 0x1008,
+        bytes: &[0x12, 0x34, 0x56, 0x78],
+        ..STORE
+    },
+    Store {
+        text: "stwu r5, -16(r3)",
+        word: 0x94A3_FFF0,
+        ea: 0xFF0,
+        bytes: &[0x12, 0x34, 0x56, 0x78],
+        base: 0xFF0,
+        ..STORE
+    },
+    Store {
+        text: "stb r5, 1(r3)",
+        word: 0x98A3_0001,
+        ea: 0x1001,
+        bytes: &[0x78],
+        ..STORE
+    },
+    Store {
+        text: "stbu r5, 1(r3)",
+        word: 0x9CA3_0001,
+        ea: 0x1001,
+        bytes: &[0x78],
+        base: 0x1001,
+        ..STORE
+    },
+    Store {
+        text: "sth r5, 2(r3)",
+        word: 0xB0A3_0002,
+        ea: 0x1002,
+        bytes: &[0x56, 0x78],
+        ..STORE
+    },
+    Store {
+        text: "sthu r5, 2(r3)",
+        word: 0xB4A3_0002,
+        ea: 0x1002,
+        bytes: &[0x56, 0x78],
+        base: 0x1002,
+        ..STORE
+    },
+    Store {
+        text: "stwx r5, r3, r4",
+        word: 0x7CA3_212E,
+        ea: 0x1010,
+        bytes: &[0x12, 0x34, 0x56, 0x78],
+        ..STORE
+    },
+    Store {
+        text: "stwux r5, r3, r4",
+        word: 0x7CA3_216E,
+        ea: 0x1010,
+        bytes: &[0x12, 0x34, 0x56, 0x78],
+        base: 0x1010,
+        ..STORE
+    },
+    Store {
+        text: "stbx r5, r3, r4",
+        word: 0x7CA3_21AE,
+        ea: 0x1010,
+        bytes: &[0x78],
+        ..STORE
+    },
+    Store {
+        text: "stbux r5, r3, r4",
+        word: 0x7CA3_21EE,
+        ea: 0x1010,
+        bytes: &[0x78],
+        base: 0x1010,
+        ..STORE
+    },
+    Store {
+        text: "sthx r5, r3, r4",
+        word: 0x7CA3_232E,
+        ea: 0x1010,
+        bytes: &[0x56, 0x78],
+        ..STORE
+    },
+    Store {
+        text: "sthux r5, r3, r4",
+        word: 0x7CA3_236E,
+        ea: 0x1010,
+        bytes: &[0x56, 0x78],
+        base: 0x1010,
+        ..STORE
+    },
+    Store {
+        text: "stwbrx r5, r3, r4",
+        word: 0x7CA3_252C,
+        ea: 0x1010,
+        bytes: &[0x78, 0x56, 0x34, 0x12],
+        ..STORE
+    },
+    Store {
+        text: "sthbrx r5, r3, r4",
+        word: 0x7CA3_272C,
+        ea: 0x1010,
+        bytes: &[0x78, 0x56],
+        ..STORE
+    },
+    Store {
+        text: "stwcx. r5, r3, r4",
+        word: 0x7CA3_212D,
+        ea: 0x1010,
+        form: Form::Conditional,
+        bytes: &[0x12, 0x34, 0x56, 0x78],
+        ..STORE
+    },
+    Store {
+        text: "stmw r30, 0(r3)",
+        word: 0xBFC3_0000,
+        ea: 0x1000,
+        form: Form::Many,
+        bytes: &[0xA0, 0, 0, 1, 0xB0, 0, 0, 2],
+        ..STORE
+    },
 ];
 
+/// What loads find.
 const BYTES: [u8; 8] = [0x81, 0x82, 0x83, 0x84, 0x85, 0x86, 0x87, 0x88];
 
+/// (r3) is 0x1000, and (r4) is 0x10.
 fn registers() -> Regs {
     let mut regs = boot(0x100, 0, 0);
     regs.set_gpr(0, 77);
@@ -177,7 +380,7 @@ fn registers() -> Regs {
 }
 
 /// Makes a load, and finishes it by the bytes.
-fn load(word: u32, regs: &mut Regs, bytes: &[u8]) -> Option<Access> {
+fn complete_load(word: u32, regs: &mut Regs, bytes: &[u8]) -> Option<Access> {
     let insn = decode(word);
     match exec(&insn, regs) {
         Effect::Memory(access) => {
@@ -191,7 +394,7 @@ fn load(word: u32, regs: &mut Regs, bytes: &[u8]) -> Option<Access> {
 }
 
 /// Makes a store, and finishes it by a byte that tells whether it was made.
-fn store(word: u32, regs: &mut Regs, made: u8) -> Option<(Access, ArrayVec<u8, 128>)> {
+fn complete_store(word: u32, regs: &mut Regs, made: u8) -> Option<(Access, ArrayVec<u8, 128>)> {
     let insn = decode(word);
     match exec(&insn, regs) {
         Effect::Memory(access) => {
@@ -209,55 +412,66 @@ fn store(word: u32, regs: &mut Regs, made: u8) -> Option<(Access, ArrayVec<u8, 1
 
 #[test]
 fn loads(rt: HostRuntime) {
-    for &(word, ea, len, form, result, base) in LOADS.iter() {
+    for sample in LOADS.iter() {
+        let text = sample.text;
         let mut regs = registers();
         regs.set_gpr(5, 0x1111_1111);
         let access = Access {
-            ea,
-            len,
-            form,
+            ea: sample.ea,
+            len: sample.len,
+            form: sample.form,
             store: false,
         };
-        let bytes = &BYTES[..(len % 9) as usize];
-        assert_eq!(rt; load(word, &mut regs, bytes), Some(access), "{word:x}");
+        let bytes = &BYTES[..(sample.len % 9) as usize];
+        assert_eq!(rt;
+            complete_load(sample.word, &mut regs, bytes),
+            Some(access),
+            "{text}"
+        );
         assert_eq!(rt;
             (regs.gpr(5), regs.gpr(3), regs.pc()),
-            (result, base, 0x104),
-            "{word:x}"
+            (sample.result, sample.base, 0x104),
+            "{text}"
         );
     }
     // lmw r30, 0(r3), and lmw r31, 0(r31), whose base is filled too
     let mut regs = registers();
-    assert_eq!(rt; load(0xBBC3_0000, &mut regs, &BYTES).is_some(), true);
+    assert_eq!(rt;
+        complete_load(0xBBC3_0000, &mut regs, &BYTES).is_some(),
+        true
+    );
     assert_eq!(rt;
         (regs.gpr(29), regs.gpr(30), regs.gpr(31)),
         (0, 0x8182_8384, 0x8586_8788)
     );
-    assert_eq!(rt; load(0xBBFF_0000, &mut regs, &BYTES[..4]).is_some(), true);
+    assert_eq!(rt;
+        complete_load(0xBBFF_0000, &mut regs, &BYTES[..4]).is_some(),
+        true
+    );
     assert_eq!(rt; (regs.gpr(30), regs.gpr(31)), (0x8182_8384, 0x8182_8384));
 }
 
 #[test]
 fn stores(rt: HostRuntime) -> Result<(), Fail> {
-    for &(word, ea, len, form, bytes, base) in STORES.iter() {
+    for sample in STORES.iter() {
+        let text = sample.text;
         let mut regs = registers();
         regs.set_gpr(5, 0x1234_5678);
-        let (access, piece) = store(word, &mut regs, 1).ok_or("no store")?;
-        let expected = Access {
-            ea,
-            len,
-            form,
-            store: true,
-        };
-        assert_eq!(rt; access, expected, "{word:x}");
-        assert_eq!(rt; piece.as_slice(), &bytes[..(len % 9) as usize], "{word:x}");
-        assert_eq!(rt; (regs.gpr(3), regs.pc()), (base, 0x104), "{word:x}");
+        let (access, piece) = complete_store(sample.word, &mut regs, 1).ok_or("no store")?;
+        assert_eq!(rt;
+            (access.ea, access.form, access.store),
+            (sample.ea, sample.form, true),
+            "{text}"
+        );
+        assert_eq!(rt; access.len as usize, sample.bytes.len(), "{text}");
+        assert_eq!(rt; piece.as_slice(), sample.bytes, "{text}");
+        assert_eq!(rt; (regs.gpr(3), regs.pc()), (sample.base, 0x104), "{text}");
     }
     // stmw r0, 0(r3) has all registers
-    let (access, piece) = store(0xBC03_0000, &mut registers(), 1).ok_or("no store")?;
+    let (access, piece) = complete_store(0xBC03_0000, &mut registers(), 1).ok_or("no store")?;
     assert_eq!(rt; (access.len, piece.len()), (128, 128));
     // dcbz r3, r4 has the block of 0x1010
-    let (access, piece) = store(0x7C03_27EC, &mut registers(), 1).ok_or("no store")?;
+    let (access, piece) = complete_store(0x7C03_27EC, &mut registers(), 1).ok_or("no store")?;
     assert_eq!(rt;
         (access.ea, access.len, access.form),
         (0x1000, 64, Form::Zero)
@@ -273,7 +487,10 @@ fn stores(rt: HostRuntime) -> Result<(), Fail> {
         let mut regs = registers();
         regs.set_cr(0xFFFF_FFFF);
         regs.set_xer(xer);
-        assert_eq!(rt; store(0x7CA3_212D, &mut regs, made).is_some(), true);
+        assert_eq!(rt;
+            complete_store(0x7CA3_212D, &mut regs, made).is_some(),
+            true
+        );
         assert_eq!(rt; (regs.cr(), regs.gpr(3)), (cr, 0x1000));
     }
     Ok(())
