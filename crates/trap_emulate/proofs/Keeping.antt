@@ -24,7 +24,7 @@ use Rattle.trap_emulate.specs.Tlb.{kept, mas_of, with_mas, tlb_write, reporting_
 use Rattle.trap_emulate.specs.Privileged.{returned, with_external_enable, state_after, emulated}
 use Rattle.trap_emulate.specs.Laws.{EmulationKeepsRegisters, DeliveryKeepsRegisters, TimeKeepsRegisters}
 use Rattle.trap_emulate.proofs.Upper.{upper_bits}
-use Rattle.trap_emulate.proofs.Victim.{local_by, by_tlb}
+use Rattle.trap_emulate.proofs.Translations.{local_by, by_tlb}
 
 -- ---- time
 

@@ -2,5 +2,5 @@ pub mod Halves
 pub mod Upper
 pub mod Timekeeping
 pub mod Returns
-pub mod Victim
+pub mod Translations
 pub mod Keeping

@@ -82,6 +82,11 @@ abbrev pub EmulationKeepsVictim : Type 0
 EmulationKeepsVictim =
     (operation : Op) (word nv : ℕ) (registers : Registers) (slots : List Entry) → nv < 4 → (emulated operation word registers slots nv).nv < 4
 
+-- What the slots of the translations keep stays through every instruction.
+abbrev pub EmulationKeepsSlots : Type 0
+EmulationKeepsSlots =
+    (operation : Op) (word nv : ℕ) (registers : Registers) (slots : List Entry) → SlotsAreKept slots → SlotsAreKept (emulated operation word registers slots nv).slots
+
 -- What registers keep stays through every instruction,
 abbrev pub EmulationKeepsRegisters : Type 0
 EmulationKeepsRegisters =

@@ -1,6 +1,6 @@
 //! Laws of the definitions. Each is a function with nothing to do, whose contract is the law.
 
-ghost use Rattle.trap_emulate.specs.Laws.{TimeCountsSteps, FallsInSilence, ExpiresOnTime, RestsAtZero, ReturnsGoBack, EmulationKeepsVictim, EmulationKeepsRegisters, DeliveryKeepsRegisters, TimeKeepsRegisters};
+ghost use Rattle.trap_emulate.specs.Laws.{TimeCountsSteps, FallsInSilence, ExpiresOnTime, RestsAtZero, ReturnsGoBack, EmulationKeepsVictim, EmulationKeepsSlots, EmulationKeepsRegisters, DeliveryKeepsRegisters, TimeKeepsRegisters};
 
 /// Clocks keep time: the time base counts the steps, and a decrementer expires at the step of its number and not
 /// before. At 0 it rests.
@@ -19,6 +19,11 @@ pub fn returns_go_back()
 /// The next-victim counter stays below 4.
 pub fn victims_are_ways()
     ensures { EmulationKeepsVictim }
+{}
+
+/// What the slots of the translations keep stays through each instruction.
+pub fn instructions_keep_the_slots()
+    ensures { EmulationKeepsSlots }
 {}
 
 /// What the registers keep stays through each instruction, each entry of an interrupt and each step's time.

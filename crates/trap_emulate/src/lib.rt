@@ -19,7 +19,10 @@ mod tlb;
 pub use cause::Cause;
 pub use clock::{is_decrementer_pending, tick};
 pub use entry::{are_interrupts_enabled, deliver, may_enter};
-pub use laws::{changes_keep_the_registers, clocks_keep_time, returns_go_back, victims_are_ways};
+pub use laws::{
+    changes_keep_the_registers, clocks_keep_time, instructions_keep_the_slots, returns_go_back,
+    victims_are_ways,
+};
 pub use mmu::Mmu;
 pub use privileged::emulate;
 

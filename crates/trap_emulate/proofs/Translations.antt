@@ -1,4 +1,4 @@
--- The next-victim counter stays a way of TLB0.
+-- What instructions on translations keep: the next-victim counter stays a way of TLB0, and the slots keep what they kept.
 use Rattle.std.proofs.Common.{arith, ℕ, ◌/◌, ◌%◌, ◌^◌, ◌<◌, ◌==◌, Bool, true, false, not, if◌then◌else◌, List, Some, None}
 use Rattle.insn.specs.declared.instruction.Op.TheVariants as op
 use Rattle.insn.specs.Fields.{ra_field, rb_field, invalidate_kind}
@@ -6,9 +6,11 @@ use Rattle.guest_regs.specs.Registers.{Registers, indexed_address}
 use Rattle.mas.specs.declared.entry.Entry.{Entry}
 use Rattle.mas.specs.Fields.{tlbsel_field, nv_field, spid_field}
 use Rattle.guest_tlb.specs.Invalidation.{ends_all, ends_pid, ends_address}
-use Rattle.trap_emulate.specs.Tlb.{Emulated, kept, tlb_write, after_invalidation, tlb_invalidate_local, tlb_invalidate}
+use Rattle.guest_tlb.specs.Kept.{AreKept}
+use Rattle.guest_tlb.proofs.Upkeep.{writes_keep_all, invalidations_keep_all}
+use Rattle.trap_emulate.specs.Tlb.{Emulated, kept, mas_of, tlb_write, after_invalidation, tlb_invalidate_local, tlb_invalidate}
 use Rattle.trap_emulate.specs.Privileged.{emulated}
-use Rattle.trap_emulate.specs.Laws.{EmulationKeepsVictim}
+use Rattle.trap_emulate.specs.Laws.{EmulationKeepsVictim, EmulationKeepsSlots}
 
 -- whichever invalidation it is
 one_of_four : (P : Emulated → Type 0) (a b c : Bool) (w x y z : Emulated) → P w → P x → P y → P z → P (if a then w else if b then x else if c then y else z)
@@ -48,3 +50,10 @@ emulation_keeps_victim op.Tlbwe word nv registers slots h = counter_small (tlbse
 emulation_keeps_victim op.Tlbilx word nv registers slots h = local_by (λ e. e.nv < 4) word registers slots nv (λ ends. h) h
 emulation_keeps_victim op.Tlbivax word nv registers slots h = by_tlb (λ e. e.nv < 4) (indexed_address registers (ra_field word) (rb_field word)) registers slots nv (λ ends. h)
 emulation_keeps_victim operation word nv registers slots h = h
+
+pub emulation_keeps_slots : EmulationKeepsSlots
+unfolding emulated tlb_write
+emulation_keeps_slots op.Tlbwe word nv registers slots h = writes_keep_all (mas_of registers) slots h
+emulation_keeps_slots op.Tlbilx word nv registers slots h = local_by (λ e. AreKept e.slots) word registers slots nv (λ ends. invalidations_keep_all ends slots h) h
+emulation_keeps_slots op.Tlbivax word nv registers slots h = by_tlb (λ e. AreKept e.slots) (indexed_address registers (ra_field word) (rb_field word)) registers slots nv (λ ends. invalidations_keep_all ends slots h)
+emulation_keeps_slots operation word nv registers slots h = h
