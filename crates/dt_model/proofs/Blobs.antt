@@ -13,6 +13,7 @@ use Rattle.dt_model.specs.Reserve.{entry_of, last_entry, IsReserveMap}
 use Rattle.dt_model.specs.Fault.{lacks_end, reserve_fault, tokens_in, fault_in, first_fault}
 use Rattle.dt_model.specs.Blob.{IsBlobOf, IsSameTree}
 use Rattle.dt_model.proofs.Found.{IsFound, structure_is, structure_found, are_inner-node, first_broken-without_nops}
+use Rattle.dt_model.proofs.Rules.{or_else-is_none}
 use Rattle.dt_model.proofs.Rows.{same_rows}
 
 -- ---- the reserve map
@@ -52,10 +53,6 @@ found_of bytes tree blob = structure_found (strings_part bytes) (structure_part 
 both_none : (a b : Option ℕ) → a ≡ None → b ≡ None → or_else a b ≡ None
 both_none a b e f = rw (e, f) refl
 
-pub parts_none : (a b : Option ℕ) → or_else a b ≡ None → (a ≡ None) × (b ≡ None)
-parts_none None b e = (refl, e)
-parts_none (Some n) b e = absurd cc
-
 pub no_fault : (bytes : List ℕ) (tree : Tree) → IsBlobOf bytes tree → first_fault bytes ≡ None
 unfolding first_fault
 no_fault bytes tree blob =
@@ -80,7 +77,7 @@ pub IsBlobOf-read : (bytes : List ℕ) (tree : Tree) → header_fault bytes ≡ 
     → fault_in [] (tokens_in (strings_part bytes) (structure_part bytes)) ≡ None → without_nops (tokens_in (strings_part bytes) (structure_part bytes)).tokens ≡ tokens_of tree
     → IsBlobOf bytes tree
 IsBlobOf-read bytes tree header boot_cpu reserve few entries fault same =
-    let parts = parts_none (first_broken [] (tokens_in (strings_part bytes) (structure_part bytes)).tokens) (tokens_in (strings_part bytes) (structure_part bytes)).stop fault in
+    let parts = or_else-is_none (first_broken [] (tokens_in (strings_part bytes) (structure_part bytes)).tokens) (tokens_in (strings_part bytes) (structure_part bytes)).stop fault in
     record {
       header = header;
       boot_cpu = boot_cpu;

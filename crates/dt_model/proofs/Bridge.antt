@@ -17,7 +17,7 @@ use Rattle.dt_model.specs.Token.{Token, BeginNode, Prop, EndNode, Nop, Finish, o
 use Rattle.dt_model.specs.Node.{property_token, node_tokens, name_of}
 use Rattle.dt_model.specs.Rule.{node_count, property_count, depth, properties_back, children_back, or_else, broken_by_begin, broken_by_property, broken_by_end, broken_by_finish, first_broken}
 use Rattle.dt_model.specs.Walk.{may_follow, may_begin, property_walk, children_walk, node_walk, walks, is_walked}
-use Rattle.dt_model.proofs.Rules.{onto-append, first_broken-append, inside, node_tokens-roll, name_of-roll, leaves, properties-depth, properties-nodes, properties-children, children-depth}
+use Rattle.dt_model.proofs.Rules.{node_tokens-out, onto-append, first_broken-append, inside, node_tokens-roll, name_of-roll, leaves, properties-depth, properties-nodes, properties-children, children-depth}
 use Rattle.dt_model.proofs.Walks.{node_walk-roll}
 
 -- ---- one token
@@ -133,9 +133,6 @@ count_rises (Finish ∷ tokens) before = count_rises tokens (Finish ∷ before)
 abbrev NodeAgrees : Node → Type 0
 NodeAgrees node = (before : List Token) (counts : Counts) → node_count before ≡ counts.nodes → property_count before ≡ counts.properties
     → Agrees (node_walk node (depth before) counts) (first_broken (BeginNode (name_of node) ∷ before) (inside (out-Node node))) (onto (node_tokens node) before)
-
-pub node_tokens-out : (node : Node) → node_tokens node ≡ BeginNode (name_of node) ∷ inside (out-Node node)
-node_tokens-out node = ap node_tokens (sym (roll-out-Node node)) ∙ node_tokens-roll (out-Node node)
 
 children_agree : (nodes : List ((node : Node) × NodeAgrees node)) (before : List Token) (earlier : List (List ℕ)) (counts : Counts) → 0 < depth before → 0 < node_count before
     → node_count before ≡ counts.nodes → property_count before ≡ counts.properties → SameNames earlier (children_back 0 before)

@@ -13,15 +13,15 @@ use Rattle.dt_model.specs.declared.tree.Tree.{Tree}
 use Rattle.dt_model.specs.Token.{Token, BeginNode, Prop, EndNode, Nop, Finish, onto, without_nops}
 use Rattle.dt_model.specs.Node.{property_token, node_tokens, name_of}
 use Rattle.dt_model.specs.Rule.{node_count, property_count, depth, children_back, is_none_of, broken_by_begin, broken_by_property, broken_by_end, broken_by_finish, first_broken}
-use Rattle.dt_model.proofs.Rules.{onto-append, behind, leaves, properties-depth, properties-children, children-depth, none_or_some, inside}
-use Rattle.dt_model.proofs.Bridge.{count_rises, node_tokens-out}
+use Rattle.dt_model.proofs.Rules.{or_else-is_none, cond-is_none, node_tokens-out, onto-append, behind, leaves, properties-depth, properties-children, children-depth, none_or_some, inside}
+use Rattle.dt_model.proofs.Bridge.{count_rises}
 use Rattle.dt_model.specs.Fit.{is_entry}
 use Rattle.dt_model.specs.Header.{header_of, header_fault, reserve_part, structure_part, strings_part}
 use Rattle.dt_model.specs.Reserve.{entry_of, last_entry, IsReserveMap}
 use Rattle.dt_model.specs.Fault.{lacks_end, reserve_fault, found_from, found_in, tokens_in, fault_in, token_at, first_fault}
 use Rattle.dt_model.specs.Blob.{IsBlobOf}
 use Rattle.dt_model.proofs.Found.{are_inner-node, without_nops-inner, same_but_nops}
-use Rattle.dt_model.proofs.Blobs.{parts_none, IsBlobOf-read}
+use Rattle.dt_model.proofs.Blobs.{IsBlobOf-read}
 use denote.RawPtr.{null_ptr}
 
 -- ---- vectors
@@ -98,10 +98,6 @@ few_props node before t is few =
 
 -- ---- what a token that breaks nothing says of its place
 
-cond_none : (b : Bool) (rule : ℕ) (other : Option ℕ) → cond b (Some rule) other ≡ None → (b ≡ false) × (other ≡ None)
-cond_none true rule other e = absurd cc
-cond_none false rule other e = (refl, e)
-
 begun_inside : (b inside named : Bool) → cond b (not inside) named ≡ false → b ≡ true → inside ≡ true
 begun_inside true inside named e is = not-false inside e
 begun_inside false inside named e is = absurd cc
@@ -113,10 +109,10 @@ record BeginNeeds (before : List Token) : Type 0 where
 begin_needs : (before : List Token) (name : List ℕ) → broken_by_begin before name ≡ None → BeginNeeds before
 unfolding broken_by_begin
 begin_needs before name e =
-    let a = cond_none _ 9 _ e in
-    let b = cond_none _ 10 _ a.1 in
-    let c = cond_none _ 11 _ b.1 in
-    let d = cond_none _ 13 _ c.1 in
+    let a = cond-is_none _ 9 _ e in
+    let b = cond-is_none _ 10 _ a.1 in
+    let c = cond-is_none _ 11 _ b.1 in
+    let d = cond-is_none _ 13 _ c.1 in
     record {
       inside = λ begun. ltb-true 0 (depth before) (begun_inside (ltb 0 (node_count before)) (ltb 0 (depth before)) (ltb 0 (length name)) c.0 (lt-ltb 0 (node_count before) begun));
       few = ltb-false 65535 (node_count before) d.0;
@@ -130,10 +126,10 @@ record PropertyNeeds (before : List Token) : Type 0 where
 property_needs : (before : List Token) (name : List ℕ) → broken_by_property before name ≡ None → PropertyNeeds before
 unfolding broken_by_property
 property_needs before name e =
-    let a = cond_none _ 9 _ e in
-    let b = cond_none _ 11 _ a.1 in
-    let c = cond_none _ 12 _ b.1 in
-    let d = cond_none _ 13 _ c.1 in
+    let a = cond-is_none _ 9 _ e in
+    let b = cond-is_none _ 11 _ a.1 in
+    let c = cond-is_none _ 12 _ b.1 in
+    let d = cond-is_none _ 13 _ c.1 in
     record {
       inside = ltb-true 0 (depth before) (not-false _ b.0);
       childless = not-false _ c.0;
@@ -155,8 +151,8 @@ record FinishNeeds (before : List Token) : Type 0 where
 finish_needs : (before : List Token) → broken_by_finish before ≡ None → FinishNeeds before
 unfolding broken_by_finish
 finish_needs before e =
-    let a = cond_none _ 11 _ e in
-    let b = cond_none _ 12 _ a.1 in
+    let a = cond-is_none _ 11 _ e in
+    let b = cond-is_none _ 12 _ a.1 in
     record { begun = ltb-true 0 (node_count before) (not-false _ a.0); outside = ltb-false 0 (depth before) b.0 }
 
 -- ---- the state after a token
@@ -245,19 +241,19 @@ at_finish before e (closed root is) = (root, ap (λ (t : List Token). Finish ∷
 tree_of_tokens : (heap : Global) (tokens before : List Token) → IsFew before → State before → first_broken before tokens ≡ None → Ends tokens → (root : Node) × (onto tokens before ≡ Finish ∷ onto (node_tokens root) [])
 tree_of_tokens heap [] before few state e ends = absurd ends
 tree_of_tokens heap (BeginNode n ∷ tokens) before few state e ends =
-    let parts = parts_none (broken_by_begin before n) (first_broken (BeginNode n ∷ before) tokens) e in
+    let parts = or_else-is_none (broken_by_begin before n) (first_broken (BeginNode n ∷ before) tokens) e in
     let more : IsFew (BeginNode n ∷ before) = record { nodes = omega (arith, (begin_needs before n parts.0).few); properties = few.properties } in
     tree_of_tokens heap tokens (BeginNode n ∷ before) more (after_begin before n parts.0 state) parts.1 ends
 tree_of_tokens heap (Prop n v ∷ tokens) before few state e ends =
-    let parts = parts_none (broken_by_property before n) (first_broken (Prop n v ∷ before) tokens) e in
+    let parts = or_else-is_none (broken_by_property before n) (first_broken (Prop n v ∷ before) tokens) e in
     let more : IsFew (Prop n v ∷ before) = record { nodes = few.nodes; properties = omega (arith, (property_needs before n parts.0).few) } in
     tree_of_tokens heap tokens (Prop n v ∷ before) more (after_property before n v parts.0 state) parts.1 ends
 tree_of_tokens heap (EndNode ∷ tokens) before few state e ends =
-    let parts = parts_none (broken_by_end before) (first_broken (EndNode ∷ before) tokens) e in
+    let parts = or_else-is_none (broken_by_end before) (first_broken (EndNode ∷ before) tokens) e in
     tree_of_tokens heap tokens (EndNode ∷ before) (record { nodes = few.nodes; properties = few.properties }) (after_end heap before few parts.0 state) parts.1 ends
 tree_of_tokens heap (Nop ∷ tokens) before few state e ends = tree_of_tokens heap tokens before few state e ends
 tree_of_tokens heap (Finish ∷ tokens) before few state e ends =
-    let parts = parts_none (broken_by_finish before) (first_broken (Finish ∷ before) tokens) e in
+    let parts = or_else-is_none (broken_by_finish before) (first_broken (Finish ∷ before) tokens) e in
     let last = at_finish before parts.0 state in
     (last.0, ap (λ (ts : List Token). onto ts (Finish ∷ before)) ends ∙ last.1)
 
@@ -269,7 +265,7 @@ record HasMap (most : ℕ) (bytes : List ℕ) : Type 0 where
   all : list_all is_entry entries ≡ true
   spelled : IsReserveMap bytes entries
 
-last_of : (entry : Reserve) → is_entry entry ≡ false → entry ≡ last_entry
+pub last_of : (entry : Reserve) → is_entry entry ≡ false → entry ≡ last_entry
 last_of entry e =
     let both = and_parts (eqb entry.address 0) (eqb entry.size 0) (not-false _ e) in
     let address = eqb-true _ _ both.0 in
@@ -303,7 +299,7 @@ has_map (suc most) bytes e =
 
 map_of : (bytes : List ℕ) → reserve_fault bytes ≡ None → HasMap 1024 bytes
 unfolding reserve_fault
-map_of bytes e = has_map 1024 bytes (cond_none _ 6 _ e).0
+map_of bytes e = has_map 1024 bytes (cond-is_none _ 6 _ e).0
 
 -- ---- the whole blob
 
@@ -311,9 +307,9 @@ pub a_tree : (heap : Global) (bytes : List ℕ) → first_fault bytes ≡ None �
 unfolding first_fault vec_of
 a_tree heap bytes e =
     let found = tokens_in (strings_part bytes) (structure_part bytes) in
-    let first = parts_none (header_fault bytes) _ e in
-    let second = parts_none (reserve_fault (reserve_part bytes)) (fault_in [] found) first.1 in
-    let kept = parts_none (first_broken [] found.tokens) found.stop second.1 in
+    let first = or_else-is_none (header_fault bytes) _ e in
+    let second = or_else-is_none (reserve_fault (reserve_part bytes)) (fault_in [] found) first.1 in
+    let kept = or_else-is_none (first_broken [] found.tokens) found.stop second.1 in
     let map = map_of (reserve_part bytes) second.0 in
     let ends = found_in-ends (length (structure_part bytes)) (strings_part bytes) (structure_part bytes) kept.1 in
     let root = tree_of_tokens heap found.tokens [] (record { nodes = omega arith; properties = omega arith }) (nothing refl) kept.0 ends in

@@ -8,3 +8,4 @@ pub mod Blobs
 pub mod Rows
 pub mod Existence
 pub mod Rewritten
+pub mod Names

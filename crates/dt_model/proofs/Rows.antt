@@ -11,7 +11,7 @@ use Rattle.dt_model.specs.declared.tree.Property.{Property}
 use Rattle.dt_model.specs.declared.tree.Tree.{Tree}
 use Rattle.dt_model.specs.Token.{Token, BeginNode, EndNode, Finish}
 use Rattle.dt_model.specs.Node.{property_token, node_tokens, tokens_of, name_of, Place, places_at, nodes_below, Row, NodeRow, PropertyRow, rows_at, rows_of, path_of, rows_inside, rows_in}
-use Rattle.dt_model.proofs.Rules.{inside, node_tokens-roll}
+use Rattle.dt_model.proofs.Rules.{node_tokens-out, inside, node_tokens-roll}
 use Rattle.dt_model.proofs.Below.{below_all, nodes_below-roll, nodes_below-out}
 
 path_of-child : (before name : List ℕ) → path_of (before ++ 0x2f ∷ name) ≡ before ++ 0x2f ∷ name
@@ -95,16 +95,13 @@ of_all nodes here outer rest =
     subst (λ (ns : List Node). rows_inside (here ∷ outer) (flat_map node_tokens ns ++ rest) ≡ flat_map rows_at (below_all here ns) ++ rows_inside (here ∷ outer) rest) (with_rows-nodes nodes)
     (of_children (with_rows nodes) here outer rest)
 
-tokens-out : (node : Node) → node_tokens node ≡ BeginNode (name_of node) ∷ inside (out-Node node)
-tokens-out node = ap node_tokens (sym (roll-out-Node node)) ∙ node_tokens-roll (out-Node node)
-
 pub rows_of-is : (tree : Tree) → rows_of tree ≡ rows_in (tokens_of tree)
 rows_of-is tree =
     let root = out-Node tree.root in
     let rows : List Row = property_rows (0x2f ∷ []) root.props.items ++ flat_map rows_at (below_all [] root.children.items) in
     ap (λ (places : List Place). NodeRow (0x2f ∷ []) ∷ (property_rows (0x2f ∷ []) root.props.items ++ flat_map rows_at places)) (nodes_below-out tree.root [])
     ∙ ap (λ (rs : List Row). NodeRow (0x2f ∷ []) ∷ rs) (sym (append-nil rows) ∙ sym (of_inside root [] [] (Finish ∷ []) (of_all root.children.items [] [])))
-    ∙ ap (λ (ts : List Token). rows_in (ts ++ Finish ∷ [])) (sym (tokens-out tree.root))
+    ∙ ap (λ (ts : List Token). rows_in (ts ++ Finish ∷ [])) (sym (node_tokens-out tree.root))
 
 -- the same tokens, and so the same rows
 pub same_rows : (a b : Tree) → tokens_of a ≡ tokens_of b → rows_of a ≡ rows_of b

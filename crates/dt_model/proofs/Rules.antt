@@ -1,10 +1,10 @@
 -- What the tokens of a node leave behind, and lists of tokens one behind the other.
-use Rattle.std.proofs.Common.{◌≡◌, ℕ, suc, false, eqb, length, List, [], ◌∷◌, ◌++◌, map, Option, Some, None, refl, sym, ap, subst, ◌∙◌, arith}
+use Rattle.std.proofs.Common.{◌≡◌, ℕ, suc, Bool, true, false, cond, eqb, length, List, [], ◌∷◌, ◌++◌, map, Option, Some, None, refl, sym, ap, subst, ◌∙◌, arith}
 use Rattle.std.specs.List.{flat_map}
 use Rattle.std.proofs.lemmas.Bool.{ne_eqb}
 use Rattle.dt_model.specs.declared.tree.Node.{Node}
 use Rattle.dt_model.specs.declared.tree.Node.TheOpen.{Node-F}
-use Rattle.dt_model.specs.declared.tree.Node.TheViews.{roll-Node, out-roll-Node}
+use Rattle.dt_model.specs.declared.tree.Node.TheViews.{out-Node, roll-Node, out-roll-Node, roll-out-Node}
 use Rattle.dt_model.specs.declared.tree.Node.TheFolds.{fold-roll-Node, ind-Node}
 use Rattle.dt_model.specs.declared.tree.Property.{Property}
 use Rattle.dt_model.specs.Token.{Token, BeginNode, Prop, EndNode, Nop, Finish, onto}
@@ -18,6 +18,15 @@ onto-append (Prop n v ∷ xs) ys before = onto-append xs ys (Prop n v ∷ before
 onto-append (EndNode ∷ xs) ys before = onto-append xs ys (EndNode ∷ before)
 onto-append (Nop ∷ xs) ys before = onto-append xs ys before
 onto-append (Finish ∷ xs) ys before = onto-append xs ys (Finish ∷ before)
+
+-- neither of two faults, and none of a chain
+pub or_else-is_none : (a b : Option ℕ) → or_else a b ≡ None → (a ≡ None) × (b ≡ None)
+or_else-is_none None b e = (refl, e)
+or_else-is_none (Some n) b e = absurd cc
+
+pub cond-is_none : (b : Bool) (rule : ℕ) (other : Option ℕ) → cond b (Some rule) other ≡ None → (b ≡ false) × (other ≡ None)
+cond-is_none true rule other e = absurd cc
+cond-is_none false rule other e = (refl, e)
 
 or_else-assoc : (a b c : Option ℕ) → or_else a (or_else b c) ≡ or_else (or_else a b) c
 or_else-assoc None b c = refl
@@ -48,6 +57,9 @@ pub node_tokens-roll : (x : Node-F Node) → node_tokens (roll-Node x) ≡ Begin
 node_tokens-roll x =
     fold-roll-Node (List Token) tokens_step x
     ∙ ap (λ (ts : List Token). BeginNode x.name ∷ (map property_token x.props.items ++ (ts ++ EndNode ∷ []))) (flat_map-mapped x.children.items)
+
+pub node_tokens-out : (node : Node) → node_tokens node ≡ BeginNode (name_of node) ∷ inside (out-Node node)
+node_tokens-out node = ap node_tokens (sym (roll-out-Node node)) ∙ node_tokens-roll (out-Node node)
 
 pub name_of-roll : (x : Node-F Node) → name_of (roll-Node x) ≡ x.name
 name_of-roll x = ap (λ (y : Node-F Node). y.name) (out-roll-Node x)

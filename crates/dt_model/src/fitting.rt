@@ -27,6 +27,7 @@ struct Counts {
     properties: u32,
 }
 
+/// Whether one of the properties has the name.
 fn is_property_among(properties: &[Property], name: &[u8]) -> bool
     ensures { result ≡ list_any (λ property. bytes_eq property.name name.now) properties.now }
 {
@@ -35,12 +36,14 @@ fn is_property_among(properties: &[Property], name: &[u8]) -> bool
         .any(|property| property.name.as_slice() == name)
 }
 
+/// Whether one of the nodes has the name.
 fn is_node_among(nodes: &[Node], name: &[u8]) -> bool
     ensures { result ≡ list_any (λ node. bytes_eq (name_of node) name.now) nodes.now }
 {
     nodes.iter().any(|node| node.name.as_slice() == name)
 }
 
+/// Whether a property of that name may come behind the earlier ones of its node and so many in the tree.
 #[tactic(auto, using(crate::proofs::Walks::has_mapped), unfolding(crate::specs::Walk::may_follow))]
 fn may_follow(earlier: &[Property], count: u32, name: &[u8]) -> bool
     ensures value { result ≡ walk.may_follow (map (λ property. property.name) earlier.now) count name.now }
@@ -49,6 +52,7 @@ fn may_follow(earlier: &[Property], count: u32, name: &[u8]) -> bool
     is_property_name(name) && count < MOST_PROPERTIES && !is_property_among(earlier, name)
 }
 
+/// How many properties the tree has behind these ones of a node, unless one may not follow.
 fn properties_after(properties: &[Property], before: u32) -> Option<u32>
     ensures { result ≡ walk.property_walk [] properties.now before }
 {
@@ -62,6 +66,7 @@ fn properties_after(properties: &[Property], before: u32) -> Option<u32>
     Some(count)
 }
 
+/// Whether a node of that name may begin behind its earlier siblings, so deep, and with so many nodes in the tree.
 #[tactic(auto, using(crate::proofs::Walks::has_mapped), unfolding(crate::specs::Walk::may_begin))]
 fn may_begin(earlier: &[Node], depth: u32, nodes: u32, name: &[u8]) -> bool
     ensures value { result ≡ walk.may_begin (map name_of earlier.now) depth nodes name.now }
@@ -71,6 +76,7 @@ fn may_begin(earlier: &[Node], depth: u32, nodes: u32, name: &[u8]) -> bool
     is_node_name(name) && depth < MOST_OPEN && nodes < MOST_NODES && !is_node_among(earlier, name)
 }
 
+/// The counts behind a node and all below it, unless something there may not follow.
 fn counts_after(node: &Node, depth: u32, before: Counts) -> Option<Counts>
     requires room { before.nodes < 65536 }
     requires shallow { depth < 32 }
@@ -95,6 +101,7 @@ fn counts_after(node: &Node, depth: u32, before: Counts) -> Option<Counts>
     Some(counts)
 }
 
+/// Whether a whole tree may be walked.
 fn is_walked(root: &Node) -> bool
     ensures { result ≡ walk.is_walked root.now }
 {
@@ -105,18 +112,21 @@ fn is_walked(root: &Node) -> bool
     root.name.as_slice().is_empty() && counts_after(root, 0, none).is_some()
 }
 
+/// Whether an entry of the reserve map isn't the one that ends it.
 fn is_entry(entry: &Reserve) -> bool
     ensures { result ≡ fit.is_entry entry.now }
 {
     !(entry.address == 0 && entry.size == 0)
 }
 
+/// Whether all are.
 fn are_entries(entries: &[Reserve]) -> bool
     ensures { result ≡ list_all fit.is_entry entries.now }
 {
     entries.iter().all(is_entry)
 }
 
+/// Whether a blob can hold the reserve map.
 fn is_reserve_map(entries: &[Reserve]) -> bool
     ensures { result ≡ (nat_le (length entries.now) 1024 && list_all fit.is_entry entries.now) }
 {

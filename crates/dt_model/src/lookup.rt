@@ -1,4 +1,5 @@
-//! Finding nodes and properties.
+//! Finding nodes and properties. The searches below a node call themselves: they take no memory, and a tree that was read has at
+//! most 32 levels.
 
 ghost use Rattle.std.specs.Prelude.{◌≡◌, ℕ, List, ◌∷◌, ◌++◌, ◌≢◌, MatchOption};
 ghost use Rattle.std.specs.Option.{option_copied};
@@ -20,7 +21,7 @@ pub fn prop<'a>(node: &'a Node, name: &[u8]) -> Option<&'a [u8]>
     None
 }
 
-// What follows the front.
+/// What follows the front.
 fn after<'a>(bytes: &'a [u8], front: &[u8]) -> Option<&'a [u8]>
     ensures { MatchOption result
         ((rest : List ℕ) → bytes.now ≢ front.now ++ rest)
@@ -29,7 +30,7 @@ fn after<'a>(bytes: &'a [u8], front: &[u8]) -> Option<&'a [u8]>
     bytes.strip_prefix(front)
 }
 
-// What follows a slash and the name.
+/// What follows a slash and the name.
 fn after_name<'a>(path: &'a [u8], name: &[u8]) -> Option<&'a [u8]>
     ensures { MatchOption result
         ((rest : List ℕ) → path.now ≢ 0x2f ∷ name.now ++ rest)
@@ -38,7 +39,7 @@ fn after_name<'a>(path: &'a [u8], name: &[u8]) -> Option<&'a [u8]>
     after(after(path, b"/")?, name)
 }
 
-// The first node below this one that has the path, from where this node's own path ends.
+/// The first node below this one that has the path, from where this node's own path ends.
 fn node_below<'a>(node: &'a Node, path: &[u8]) -> Option<&'a Node>
     ensures { (before : List ℕ) → option_copied result
         ≡ first_node (λ place. bytes_eq place.0 (before ++ path.now)) (nodes_below node.now before) }
@@ -67,6 +68,7 @@ pub fn node_at<'a>(tree: &'a Tree, path: &[u8]) -> Option<&'a Node>
     node_below(&tree.root, path)
 }
 
+/// Whether the node's phandle is the number.
 fn has_phandle(node: &Node, number: u32) -> bool
     ensures { result ≡ is_phandle number node.now }
 {
@@ -76,6 +78,7 @@ fn has_phandle(node: &Node, number: u32) -> bool
     }
 }
 
+/// The first node below this one whose phandle is the number.
 fn phandle_below(node: &Node, number: u32) -> Option<&Node>
     ensures { (before : List ℕ) → option_copied result
         ≡ first_node (λ place. is_phandle number place.1) (nodes_below node.now before) }

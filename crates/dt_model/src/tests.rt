@@ -1,3 +1,5 @@
+//! What no clause says: the limits at their edges, and values worked out by hand.
+
 use super::*;
 use outside::{Bytes, NoMemory};
 use std::alloc::Global;

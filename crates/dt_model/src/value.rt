@@ -29,12 +29,14 @@ pub fn u64_of(value: &[u8]) -> Option<u64>
     }
 }
 
+/// Whether the byte is a printable character of ASCII.
 fn is_printable(byte: u8) -> bool
     ensures { result ≡ spec.is_printable byte }
 {
     0x20 <= byte && byte <= 0x7e
 }
 
+/// Whether all of the bytes are.
 fn are_printable(bytes: &[u8]) -> bool
     ensures { result ≡ list_all spec.is_printable bytes.now }
 {

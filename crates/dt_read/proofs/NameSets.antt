@@ -11,19 +11,13 @@ use Rattle.std.proofs.lemmas.Bool.{cases_Bool, false_from_ne_true}
 use Rattle.std.proofs.lemmas.Map.Text.{is_eq-slice_cmp}
 use Rattle.std.proofs.lemmas.Slice.Eq.{bytes_eq-Decides}
 use Rattle.dt_model.specs.Name.{has}
+use Rattle.dt_model.proofs.Names.{bytes_eq-sym}
 
 abbrev by_bytes : Bor (List ℕ) → Bor (List ℕ) → Ordering
 by_bytes x y = slice_cmp nat_cmp x.now y.now
 
 abbrev pub seen : List (Bor (List ℕ)) → List (List ℕ)
 seen = map (λ (k : Bor (List ℕ)). k.now)
-
-bytes_eq-sym : (x y : List ℕ) → bytes_eq x y ≡ bytes_eq y x
-bytes_eq-sym x y =
-    elim (cases_Bool (bytes_eq x y)) [
-      | inl same ↦ same ∙ sym ((bytes_eq-Decides y x).1 (sym ((bytes_eq-Decides x y).0 same)))
-      | inr other ↦ other ∙ sym (false_from_ne_true (bytes_eq y x) (λ same. absurd (cc (sym other ∙ (bytes_eq-Decides x y).1 (sym ((bytes_eq-Decides y x).0 same))))))
-    ]
 
 -- what the set's look-up says
 pub contains-is : (key : Bor (List ℕ)) (keys : List (Bor (List ℕ))) → list_any (λ k. is_eq (by_bytes key k)) keys ≡ has (seen keys) key.now

@@ -7,13 +7,7 @@ use Rattle.dt_model.specs.declared.Reserve.{Reserve}
 use Rattle.dt_model.specs.Fit.{is_entry}
 use Rattle.dt_model.specs.Reserve.{entry_of, last_entry, IsReserveMap}
 use Rattle.dt_model.specs.Fault.{lacks_end}
-
-is_last : (entry : Reserve) → is_entry entry ≡ false → entry ≡ last_entry
-is_last entry e =
-    let both = and_parts (eqb entry.address 0) (eqb entry.size 0) (not-false _ e) in
-    let address = eqb-true _ _ both.0 in
-    let size = eqb-true _ _ both.1 in
-    λ i. record { address = address i; size = size i }
+use Rattle.dt_model.proofs.Existence.{last_of}
 
 -- the two zeros
 pub lacks_end-at_end : (most : ℕ) (bytes : List ℕ) → 16 ≤ length bytes → is_entry (entry_of bytes) ≡ false → lacks_end most bytes ≡ false
@@ -21,7 +15,7 @@ lacks_end-at_end zero bytes long e = rw (le-ltb (length bytes) 16 long, e) refl
 lacks_end-at_end (suc most) bytes long e = rw (le-ltb (length bytes) 16 long, e) refl
 
 pub IsReserveMap-at_end : (bytes : List ℕ) → 16 ≤ length bytes → is_entry (entry_of bytes) ≡ false → IsReserveMap bytes []
-IsReserveMap-at_end bytes long e = (long, is_last (entry_of bytes) e)
+IsReserveMap-at_end bytes long e = (long, last_of (entry_of bytes) e)
 
 -- one entry too many
 pub lacks_end-at_most : (bytes : List ℕ) → 16 ≤ length bytes → is_entry (entry_of bytes) ≡ true → lacks_end 0 bytes ≡ true

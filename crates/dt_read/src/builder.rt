@@ -60,6 +60,7 @@ impl<'a> Model for Builder<'a> {
     ghost invariant = { λ builder. IsBuilt builder.place builder.nodes builder.properties };
 }
 
+/// A node that is open, with nothing in it yet.
 fn make_open<'a>(alloc: Global, name: &[u8]) -> Result<Open<'a>, BlobFault>
     ensures { MatchResult result (λ node. IsFresh node name.now) (λ fault. fault ≡ BlobFault.NoMemory) }
 {
@@ -72,6 +73,7 @@ fn make_open<'a>(alloc: Global, name: &[u8]) -> Result<Open<'a>, BlobFault>
     })
 }
 
+/// Begins the root.
 fn begin_root<'a>(alloc: Global, name: &[u8]) -> Result<Builder<'a>, BlobFault>
     ensures { TakesToken [] (BeginNode name.now) result }
 {
@@ -86,6 +88,7 @@ fn begin_root<'a>(alloc: Global, name: &[u8]) -> Result<Builder<'a>, BlobFault>
     })
 }
 
+/// Begins a child of the innermost open node.
 fn begin_child<'a>(
     alloc: Global,
     outer: Vec<Open<'a>>,
@@ -120,6 +123,7 @@ fn begin_child<'a>(
     })
 }
 
+/// A node behind the root, which is a fault.
 fn begin_behind<'a>(root: Node, name: &[u8]) -> Result<Builder<'a>, BlobFault>
     requires { IsClosed (onto (node_tokens root) []) }
     ensures { TakesToken (onto (node_tokens root) []) (BeginNode name.now) result }
@@ -131,6 +135,7 @@ fn begin_behind<'a>(root: Node, name: &[u8]) -> Result<Builder<'a>, BlobFault>
     }
 }
 
+/// Adds a property to the innermost open node.
 fn add_property<'a>(
     alloc: Global,
     outer: Vec<Open<'a>>,
@@ -168,7 +173,7 @@ fn add_property<'a>(
     })
 }
 
-// Why a property can't stand before the root or behind it.
+/// Why a property can't stand before the root or behind it.
 fn property_fault(name: &[u8]) -> BlobFault
     ensures { (t : List Spelled) → depth t ≡ 0 → FailsBy result (broken_by_property t name.now) }
 {
@@ -179,6 +184,7 @@ fn property_fault(name: &[u8]) -> BlobFault
     }
 }
 
+/// Ends the innermost open node.
 fn end_node<'a>(
     outer: Vec<Open<'a>>,
     here: Open<'a>,
@@ -212,6 +218,7 @@ fn end_node<'a>(
     }
 }
 
+/// Takes the beginning of a node.
 fn begin<'a>(alloc: Global, builder: Builder<'a>, name: &'a [u8]) -> Result<Builder<'a>, BlobFault>
     ensures { TakesToken builder.entry (BeginNode name.now) result }
 {
@@ -227,6 +234,7 @@ fn begin<'a>(alloc: Global, builder: Builder<'a>, name: &'a [u8]) -> Result<Buil
     }
 }
 
+/// Takes a property.
 fn property<'a>(
     alloc: Global,
     builder: Builder<'a>,
@@ -249,6 +257,7 @@ fn property<'a>(
     }
 }
 
+/// Takes the end of a node.
 fn end(builder: Builder<'_>) -> Result<Builder<'_>, BlobFault>
     ensures { TakesToken builder.entry EndNode result }
 {
@@ -265,6 +274,7 @@ fn end(builder: Builder<'_>) -> Result<Builder<'_>, BlobFault>
 }
 
 impl<'a> Builder<'a> {
+    /// No token yet.
     pub fn new() -> Builder<'a>
         ensures { result ≡ [] }
     {

@@ -33,6 +33,7 @@ pub struct Header {
     pub structure_size: u32,
 }
 
+/// The word of the header at an offset.
 fn word_at(blob: &[u8], at: usize) -> u32
     requires { at + 4 ≤ length blob.now }
     ensures { result ≡ big_number 4 (drop at blob.now) }
@@ -40,6 +41,7 @@ fn word_at(blob: &[u8], at: usize) -> u32
     BigEndian::read_u32(&blob[at..])
 }
 
+/// The words of the header.
 #[tactic(auto, unfolding(dt_model::specs::Header::header_of))]
 fn words_of(blob: &[u8]) -> Header
     requires { 40 ≤ length blob.now }
@@ -59,6 +61,7 @@ fn words_of(blob: &[u8]) -> Header
     }
 }
 
+/// Whether a block begins or ends where it may not.
 #[tactic(auto, unfolding(dt_model::specs::Header::is_misplaced))]
 fn is_misplaced(header: &Header) -> bool
     ensures value { result ≡ spec.is_misplaced (header_view header.now) }
@@ -76,7 +79,7 @@ fn is_misplaced(header: &Header) -> bool
         || header.reserve_at % 8 != 0
 }
 
-// The first of the rules B2 to B5 that the header breaks, in a blob of so many bytes.
+/// The first of the rules B2 to B5 that the header breaks, in a blob of so many bytes.
 #[tactic(auto, unfolding(dt_model::specs::Header::words_fault))]
 fn fault_of(header: &Header, count: usize) -> Option<u8>
     ensures value { result ≡ spec.words_fault count (header_view header.now) }

@@ -17,6 +17,7 @@ use crate::token::token_at;
 use dt_model::{Node, Tree};
 use std::alloc::Global;
 
+/// The root that a structure block holds.
 fn root_of(alloc: Global, strings: &[u8], block: &[u8]) -> Result<Node, BlobFault>
     ensures { ReadsRoot strings.now block.now result }
 {
@@ -32,7 +33,7 @@ fn root_of(alloc: Global, strings: &[u8], block: &[u8]) -> Result<Node, BlobFaul
     }
 }
 
-// What stands behind so many bytes.
+/// What stands behind so many bytes.
 fn behind(bytes: &[u8], at: usize) -> &[u8]
     ensures { result.now ≡ drop at bytes.now }
 {
@@ -43,6 +44,7 @@ fn behind(bytes: &[u8], at: usize) -> &[u8]
     }
 }
 
+/// The blob from the reserve map on.
 fn reserve_bytes<'a>(blob: &'a [u8], header: &Header) -> &'a [u8]
     requires within { header.now.total_size ≤ length blob.now }
     requires same { header_view header.now ≡ spec.header_of blob.now }
@@ -54,6 +56,7 @@ fn reserve_bytes<'a>(blob: &'a [u8], header: &Header) -> &'a [u8]
     )
 }
 
+/// The structure block.
 fn structure_bytes<'a>(blob: &'a [u8], header: &Header) -> &'a [u8]
     requires within { header.now.structure_at + header.now.structure_size ≤ length blob.now }
     requires same { header_view header.now ≡ spec.header_of blob.now }
@@ -63,6 +66,7 @@ fn structure_bytes<'a>(blob: &'a [u8], header: &Header) -> &'a [u8]
     behind.split_at(header.structure_size as usize).0
 }
 
+/// The strings block.
 fn strings_bytes<'a>(blob: &'a [u8], header: &Header) -> &'a [u8]
     requires within { header.now.strings_at + header.now.strings_size ≤ length blob.now }
     requires same { header_view header.now ≡ spec.header_of blob.now }
@@ -72,6 +76,7 @@ fn strings_bytes<'a>(blob: &'a [u8], header: &Header) -> &'a [u8]
     behind.split_at(header.strings_size as usize).0
 }
 
+/// The tree behind a header that breaks no rule.
 fn tree_of(alloc: Global, blob: &[u8]) -> Result<Tree, BlobFault>
     ensures { MatchResult result
         (λ tree. IsBlobOf blob.now tree × (first_fault blob.now ≡ None))

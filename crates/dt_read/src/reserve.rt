@@ -15,6 +15,7 @@ const MOST_ENTRIES: usize = 1024;
 
 const ENTRY_LENGTH: usize = 16;
 
+/// The entry at the front.
 #[tactic(auto, unfolding(dt_model::specs::Reserve::entry_of))]
 fn entry_at(bytes: &[u8]) -> Reserve
     requires { 16 ≤ length bytes.now }
@@ -26,12 +27,14 @@ fn entry_at(bytes: &[u8]) -> Reserve
     }
 }
 
+/// Whether an entry isn't the one that ends the map.
 fn is_entry(entry: Reserve) -> bool
     ensures { result ≡ fit.is_entry entry }
 {
     !(entry.address == 0 && entry.size == 0)
 }
 
+/// The entries up to the one that ends the map, at most so many.
 fn entries_of(alloc: Global, most: usize, bytes: &[u8]) -> Result<Vec<Reserve>, BlobFault>
     ensures { MatchResult result
         (λ entries. (entries_fault most bytes.now ≡ None) × IsMapOf most bytes.now entries.items)

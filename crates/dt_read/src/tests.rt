@@ -1,3 +1,5 @@
+//! What no clause says: blobs worked out by hand, each cut and each rule.
+
 use super::*;
 use dt_model::{fits, prop};
 use std::alloc::Global;

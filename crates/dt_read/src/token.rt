@@ -41,6 +41,7 @@ impl Token<'_> {
     }
 }
 
+/// A word, and what follows it.
 fn word_at(bytes: &[u8]) -> Result<(u32, &[u8]), BlobFault>
     ensures { Gives (λ x. (x.0, x.1.now)) result (spec.word_at bytes.now) }
 {
@@ -50,19 +51,21 @@ fn word_at(bytes: &[u8]) -> Result<(u32, &[u8]), BlobFault>
     Ok((BigEndian::read_u32(bytes), &bytes[4..]))
 }
 
+/// Whether all of the bytes are 0.
 fn are_zeros(bytes: &[u8]) -> bool
     ensures { result ≡ spec.are_zeros bytes.now }
 {
     bytes.iter().all(|byte| *byte == 0)
 }
 
+/// How many bytes follow so many up to a multiple of 4.
 fn padding(count: usize) -> usize
     ensures { result ≡ spelling.padding count }
 {
     (4 - count % 4) % 4
 }
 
-// So many bytes, and what stands behind them and their padding.
+/// So many bytes, and what stands behind them and their padding.
 #[tactic(auto, unfolding(dt_model::specs::Fault::padded_at))]
 fn padded_at(rule: u8, count: usize, bytes: &[u8]) -> Result<(&[u8], &[u8]), BlobFault>
     ensures { Gives (λ x. (x.0.now, x.1.now)) result (spec.padded_at rule count bytes.now) }
@@ -80,12 +83,14 @@ fn padded_at(rule: u8, count: usize, bytes: &[u8]) -> Result<(&[u8], &[u8]), Blo
     }
 }
 
+/// Where the first NUL is.
 fn nul_at(bytes: &[u8]) -> Option<usize>
     ensures { result ≡ position (λ byte. byte == 0) bytes.now }
 {
     bytes.iter().position(|byte| *byte == 0)
 }
 
+/// The string at a place of the strings block, without its NUL.
 #[tactic(auto, unfolding(dt_model::specs::Fault::string_at))]
 fn string_at(strings: &[u8], offset: u32) -> Result<&[u8], BlobFault>
     ensures { Gives (λ x. x.now) result (spec.string_at strings.now offset) }
@@ -101,6 +106,7 @@ fn string_at(strings: &[u8], offset: u32) -> Result<&[u8], BlobFault>
     }
 }
 
+/// The beginning of a node, behind its word.
 #[tactic(auto, unfolding(dt_model::specs::Fault::begin_at))]
 fn begin_at(bytes: &[u8]) -> Result<(Token<'_>, &[u8]), BlobFault>
     ensures { Gives (λ x. (token_view x.0, x.1.now)) result (spec.begin_at bytes.now) }
@@ -112,6 +118,7 @@ fn begin_at(bytes: &[u8]) -> Result<(Token<'_>, &[u8]), BlobFault>
     Ok((Token::BeginNode(&bytes[..end]), rest))
 }
 
+/// A property, behind its word.
 #[tactic(auto, unfolding(dt_model::specs::Fault::property_at))]
 fn property_at<'a>(strings: &'a [u8], bytes: &'a [u8]) -> Result<(Token<'a>, &'a [u8]), BlobFault>
     ensures { Gives (λ x. (token_view x.0, x.1.now)) result (spec.property_at strings.now bytes.now) }
@@ -123,6 +130,7 @@ fn property_at<'a>(strings: &'a [u8], bytes: &'a [u8]) -> Result<(Token<'a>, &'a
     Ok((Token::Prop(name, value), rest))
 }
 
+/// The token of a word, and what follows it.
 #[tactic(auto, unfolding(dt_model::specs::Fault::token_of))]
 fn token_of<'a>(
     strings: &'a [u8],

@@ -3,7 +3,7 @@ use Rattle.std.proofs.Common.{◌≡◌, ℕ, ◌+◌, ◌<◌, ◌≤◌, ◌^�
 use Rattle.std.specs.List.{list_all}
 use Rattle.std.specs.Str.{bytes_eq}
 use Rattle.std.proofs.lemmas.List.{drop_at, drop-drop}
-use Rattle.std.proofs.lemmas.Bool.{eqb-true, ltb-false}
+use Rattle.std.proofs.lemmas.Bool.{eqb-true, ltb-false, and_parts}
 use Rattle.std.proofs.lemmas.Slice.Eq.{bytes_eq-Decides}
 use Rattle.byteorder.specs.Endian.{big_number}
 use Rattle.byteorder.specs.Numbers.{big_number-reads_back, length-bytes_high_first}
@@ -12,6 +12,7 @@ use Rattle.dt_model.specs.Token.{Token, BeginNode, Prop, EndNode, Nop, Finish}
 use Rattle.dt_model.specs.Rule.{broken_by_begin, broken_by_property, or_else, first_broken, is_begun, is_inside, node_count, depth, children_back}
 use Rattle.dt_model.specs.Spelling.{padding, padded, IsWord, HasNoNul, BeginsWith, Spells, SpellsAll}
 use Rattle.dt_model.specs.Canonical.{word, with_name, names_after, offset_of, strings_of, spelling, structure_of}
+use Rattle.dt_model.proofs.Rules.{or_else-is_none, cond-is_none}
 use Rattle.dt_write.proofs.Whole.{more_names, has_with}
 
 -- ---- words
@@ -26,18 +27,6 @@ begins : (n : ℕ) (rest : List ℕ) → n < 2 ^ 32 → BeginsWith n (word n ++ 
 begins n rest small = record { word = word n; is_word = is_word n small; parts = refl }
 
 -- ---- tests
-
-passed : (b : Bool) (rule : ℕ) (others : Option ℕ) → cond b (Some rule) others ≡ None → (b ≡ false) × (others ≡ None)
-passed true rule others h = absurd (cc)
-passed false rule others h = (refl, h)
-
-first_passed : (a b : Option ℕ) → or_else a b ≡ None → (a ≡ None) × (b ≡ None)
-first_passed (Some rule) b h = absurd (cc)
-first_passed None b h = (refl, h)
-
-both_hold : (a b : Bool) → (a && b) ≡ true → (a ≡ true) × (b ≡ true)
-both_hold true b h = (refl, h)
-both_hold false b h = absurd (cc)
 
 not_both : (a b : Bool) → (a && not b) ≡ false → a ≡ true → b ≡ true
 not_both true true h is = refl
@@ -59,13 +48,13 @@ other_than_nul is_char byte true test zero is =
 no_nul : (is_char : ℕ → Bool) (name : List ℕ) → is_char 0 ≡ false → list_all is_char name ≡ true → HasNoNul name
 no_nul is_char [] zero all = refl
 no_nul is_char (byte ∷ name) zero all =
-    let parts = both_hold (is_char byte) (list_all is_char name) all in
+    let parts = and_parts (is_char byte) (list_all is_char name) all in
     rw (other_than_nul is_char byte _ refl zero parts.0) (no_nul is_char name zero parts.1)
 
 plain_name : (is_char : ℕ → Bool) (name : List ℕ) → is_char 0 ≡ false → is_name_of is_char name ≡ true → HasNoNul name
 unfolding is_name_of
 plain_name is_char name zero is =
-    let chars = both_hold _ _ ((both_hold _ _ is).0) in no_nul is_char name zero chars.1
+    let chars = and_parts _ _ ((and_parts _ _ is).0) in no_nul is_char name zero chars.1
 
 empty_plain : (name : List ℕ) → nat_lt 0 (length name) ≡ false → HasNoNul name
 empty_plain [] is = refl
@@ -81,19 +70,19 @@ IsPlain Finish = Unit {0}
 
 begin_plain : (before : List Token) (name : List ℕ) (b : Bool) → is_begun before ≡ b → broken_by_begin before name ≡ None → HasNoNul name
 unfolding broken_by_begin
-begin_plain before name true begun sound = plain_name is_node_char name refl (not_both _ _ (passed _ _ _ sound).0 begun)
+begin_plain before name true begun sound = plain_name is_node_char name refl (not_both _ _ (cond-is_none _ _ _ sound).0 begun)
 begin_plain before name false begun sound =
     let count = cond (nat_lt 65535 (node_count before)) (Some 13) (cond (has (children_back 0 before) name) (Some 14) None) in
     let place = cond (cond (is_begun before) (not (is_inside before)) (nat_lt 0 (length name))) (Some 11) count in
-    let depth_passed = passed (is_begun before && not (is_node_name name)) 9 (cond (nat_lt 31 (depth before)) (Some 10) place) sound in
-    let place_passed = passed (nat_lt 31 (depth before)) 10 place depth_passed.1 in
+    let depth_passed = cond-is_none (is_begun before && not (is_node_name name)) 9 (cond (nat_lt 31 (depth before)) (Some 10) place) sound in
+    let place_passed = cond-is_none (nat_lt 31 (depth before)) 10 place depth_passed.1 in
     let root : cond (is_begun before) (not (is_inside before)) (nat_lt 0 (length name)) ≡ false =
-    (passed (cond (is_begun before) (not (is_inside before)) (nat_lt 0 (length name))) 11 count place_passed.1).0 in
+    (cond-is_none (cond (is_begun before) (not (is_inside before)) (nat_lt 0 (length name))) 11 count place_passed.1).0 in
     empty_plain name (sym (ap (λ (b : Bool). cond b (not (is_inside before)) (nat_lt 0 (length name))) begun) ∙ root)
 
 property_plain : (before : List Token) (name : List ℕ) → broken_by_property before name ≡ None → HasNoNul name
 unfolding broken_by_property
-property_plain before name sound = plain_name is_property_char name refl (undone _ (passed _ _ _ sound).0)
+property_plain before name sound = plain_name is_property_char name refl (undone _ (cond-is_none _ _ _ sound).0)
 
 abbrev ArePlain : List Token → Type 0
 ArePlain [] = Unit {0}
@@ -102,12 +91,12 @@ ArePlain (token ∷ tokens) = IsPlain token × ArePlain tokens
 pub are_plain : (before tokens : List Token) → first_broken before tokens ≡ None → ArePlain tokens
 are_plain before [] sound = tt
 are_plain before (BeginNode name ∷ tokens) sound =
-    let parts = first_passed _ _ sound in (begin_plain before name _ refl parts.0, are_plain (BeginNode name ∷ before) tokens parts.1)
+    let parts = or_else-is_none _ _ sound in (begin_plain before name _ refl parts.0, are_plain (BeginNode name ∷ before) tokens parts.1)
 are_plain before (Prop name value ∷ tokens) sound =
-    let parts = first_passed _ _ sound in (property_plain before name parts.0, are_plain (Prop name value ∷ before) tokens parts.1)
-are_plain before (EndNode ∷ tokens) sound = let parts = first_passed _ _ sound in (tt, are_plain (EndNode ∷ before) tokens parts.1)
+    let parts = or_else-is_none _ _ sound in (property_plain before name parts.0, are_plain (Prop name value ∷ before) tokens parts.1)
+are_plain before (EndNode ∷ tokens) sound = let parts = or_else-is_none _ _ sound in (tt, are_plain (EndNode ∷ before) tokens parts.1)
 are_plain before (Nop ∷ tokens) sound = (tt, are_plain before tokens sound)
-are_plain before (Finish ∷ tokens) sound = let parts = first_passed _ _ sound in (tt, are_plain (Finish ∷ before) tokens parts.1)
+are_plain before (Finish ∷ tokens) sound = let parts = or_else-is_none _ _ sound in (tt, are_plain (Finish ∷ before) tokens parts.1)
 
 -- ---- names are among the names
 

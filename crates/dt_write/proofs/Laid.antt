@@ -5,6 +5,7 @@ use Rattle.std.specs.Str.{bytes_eq}
 use Rattle.std.specs.Map.{lookup}
 use Rattle.std.specs.Cmp.Lexicographic.{nat_list_eq_equiv}
 use Rattle.dt_model.specs.Name.{has}
+use Rattle.dt_model.proofs.Names.{bytes_eq-sym}
 use Rattle.dt_model.specs.Canonical.{with_name, offset_of, strings_of, most_bytes}
 use Rattle.indexmap.specs.IndexMap.{insert_entry}
 use Rattle.dt_write.specs.Names.{names_in, ArePlaces, AreLaidOut}
@@ -13,20 +14,17 @@ neither : (a b : Bool) → (a || b) ≡ false → (a ≡ false) × (b ≡ false)
 neither false b h = (refl, h)
 neither true b h = absurd (cc)
 
-same_either_way : (a b : List ℕ) → bytes_eq a b ≡ bytes_eq b a
-same_either_way a b = nat_list_eq_equiv.symm a b
-
 by_name : (entry : Bor (List ℕ) × ℕ) (entries : List (Bor (List ℕ) × ℕ)) (place : ℕ) (name : List ℕ) (b : Bool) → bytes_eq entry.0.now name ≡ b → entry.1 ≡ place
     → lookup (λ (k : Bor (List ℕ)). bytes_eq name k.now) entries
     ≡ cond (has (names_in entries) name) (Some (place + (length entry.0.now + 1) + offset_of (names_in entries) name)) None
     → cond (bytes_eq name entry.0.now) (Some entry.1) (lookup (λ (k : Bor (List ℕ)). bytes_eq name k.now) entries)
     ≡ cond (bytes_eq entry.0.now name || has (names_in entries) name) (Some (place + cond (bytes_eq entry.0.now name) 0 (length entry.0.now + 1 + offset_of (names_in entries) name))) None
 by_name entry entries place name true same is others =
-    let here : bytes_eq name entry.0.now ≡ true = same_either_way name entry.0.now ∙ same in
+    let here : bytes_eq name entry.0.now ≡ true = bytes_eq-sym name entry.0.now ∙ same in
     let at : entry.1 ≡ place + 0 = omega arith in
     rw (here, same) (ap (λ n. Some n) at)
 by_name entry entries place name false other is others =
-    let there : bytes_eq name entry.0.now ≡ false = same_either_way name entry.0.now ∙ other in
+    let there : bytes_eq name entry.0.now ≡ false = bytes_eq-sym name entry.0.now ∙ other in
     let n = offset_of (names_in entries) name in
     let at : place + (length entry.0.now + 1) + n ≡ place + (length entry.0.now + 1 + n) = omega arith in
     rw (there, other) (others ∙ ap (λ m. cond (has (names_in entries) name) (Some m) None) at)
@@ -94,7 +92,7 @@ pub added : (entries : List (Bor (List ℕ) × ℕ)) (name : Bor (List ℕ)) (pl
 added [] name place new = refl
 added (first ∷ entries) name place new =
     let parts = neither (bytes_eq first.0.now name.now) (has (names_in entries) name.now) new in
-    let other : bytes_eq name.now first.0.now ≡ false = same_either_way name.now first.0.now ∙ parts.0 in
+    let other : bytes_eq name.now first.0.now ≡ false = bytes_eq-sym name.now first.0.now ∙ parts.0 in
     rw other (ap (λ es. first ∷ es) (added entries name place parts.1))
 
 -- the names are those of the keys

@@ -12,7 +12,7 @@ use Rattle.dt_model.specs.Name.{has}
 use Rattle.dt_model.specs.Token.{Token, BeginNode, Prop, EndNode, Nop, Finish}
 use Rattle.dt_model.specs.Node.{node_tokens, property_token}
 use Rattle.dt_model.specs.Canonical.{with_name, strings_of, spelling}
-use Rattle.dt_model.proofs.Rules.{inside, node_tokens-roll}
+use Rattle.dt_model.proofs.Rules.{inside, node_tokens-out}
 use Rattle.dt_write.specs.Layout.{Laid, with_token, with_tokens, size_of}
 use Rattle.dt_write.proofs.Laid.{strings_push}
 
@@ -75,9 +75,6 @@ upto-next x i child lt is =
     ∙ ap (λ (n : Node). flat_map node_tokens (take i x.children.items) ++ node_tokens n) (sym is) in
     ap (λ (ts : List Token). BeginNode x.name ∷ (front ++ ts)) more
     ∙ ap (λ (ts : List Token). BeginNode x.name ∷ ts) (sym (append_assoc front (flat_map node_tokens (take i x.children.items)) (node_tokens child)))
-
-node_tokens-out : (node : Node) → node_tokens node ≡ BeginNode (out-Node node).name ∷ inside (out-Node node)
-node_tokens-out node = ap node_tokens (sym (roll-out-Node node)) ∙ node_tokens-roll (out-Node node)
 
 -- the children from there on, and the node's end
 abbrev pub from : Node-F Node → ℕ → List Token

@@ -1,3 +1,5 @@
+//! Why a tree was not written.
+
 use std::alloc::{AllocError, AllocFailed};
 use thiserror::Error;
 

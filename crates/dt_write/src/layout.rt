@@ -1,3 +1,5 @@
+//! Where the blocks of a canonical blob lie.
+
 ghost use Rattle.std.specs.Prelude.{◌≡◌, ◌<◌, [], OnOk, IsErrOf};
 ghost use Rattle.dt_model.specs.Token.{BeginNode, EndNode, Finish};
 ghost use Rattle.dt_model.specs.Node.{name_of, property_token};
@@ -103,7 +105,7 @@ impl<'a> Layout<'a> {
         &self.names
     }
 
-    // Whether the structure block alone is too large already.
+    /// Whether the structure block alone is too large already.
     fn check(&self) -> Result<(), WriteFault>
         ensures too_large { IsErrOf result WriteFault.TooLarge → most_bytes < size_of self.now }
         ensures memory { IsErrOf result WriteFault.NoMemory → ⊥ }

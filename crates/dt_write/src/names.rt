@@ -1,3 +1,5 @@
+//! The names of the strings block.
+
 ghost use Rattle.std.specs.Prelude.{◌≡◌, ◌<◌, ◌≤◌, ◌+◌, false, [], ◌∷◌, ◌++◌, length, Some, None, IfOk, OnOk, IsErrOf, if◌then◌else◌};
 ghost use Rattle.dt_model.specs.Name.{has};
 ghost use Rattle.dt_model.specs.Canonical.{with_name, offset_of, strings_of, most_bytes};
@@ -52,13 +54,14 @@ impl<'a> Names<'a> {
         }
     }
 
+    /// The place of a name that is there.
     fn known_place(&self, name: &'a [u8]) -> Option<u32>
         ensures { result ≡ (if has self.now name.now then Some (offset_of self.now name.now) else None) }
     {
         self.places.get(&name).copied()
     }
 
-    // Puts a new name behind the others.
+    /// Puts a new name behind the others.
     fn add(&mut self, name: &'a [u8]) -> Result<u32, WriteFault>
         requires { has self.old name.now ≡ false }
         ensures names { OnOk result (self.new ≡ self.old ++ name.now ∷ []) }

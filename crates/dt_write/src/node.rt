@@ -1,3 +1,5 @@
+//! The structure block: a node with all below it.
+
 ghost use Rattle.std.specs.Prelude.{◌≡◌, ◌<◌, map, OnOk, IsErrOf};
 ghost use Rattle.dt_model.specs.Node.{node_tokens, property_token};
 ghost use Rattle.dt_model.specs.Canonical.{most_bytes};
@@ -20,6 +22,7 @@ pub fn write_node<'a>(layout: &mut Layout<'a>, node: &'a Node) -> Result<(), Wri
     layout.end()
 }
 
+/// Lays out the properties of a node.
 fn write_properties<'a>(
     layout: &mut Layout<'a>,
     properties: &'a [Property],

@@ -5,7 +5,7 @@ use outside::{Bytes, NoMemory};
 use std::alloc::Global;
 use std::test::Fail;
 
-// The blob of a root without properties.
+/// The blob of a root without properties.
 const SMALLEST: [u32; 18] = [
     0xD00D_FEED,
     72,
@@ -27,7 +27,7 @@ const SMALLEST: [u32; 18] = [
     9,
 ];
 
-// The words of the blob of a root with the properties `areg` and `reg`, before the strings.
+/// The words of the blob of a root with the properties `areg` and `reg`, before the strings.
 const TWO_PROPERTIES: [u32; 24] = [
     0xD00D_FEED,
     105,
@@ -55,8 +55,8 @@ const TWO_PROPERTIES: [u32; 24] = [
     9,
 ];
 
-// The words of the blob of a root `x` with a value of five bytes and a child `ab`, behind one reserved
-// range and with boot cpu 3; `x` stands in the child too.
+/// The words of the blob of a root `x` with a value of five bytes and a child `ab`, behind one reserved
+/// range and with boot cpu 3; `x` stands in the child too.
 const A_CHILD: [u32; 36] = [
     0xD00D_FEED,
     146,

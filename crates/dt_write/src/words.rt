@@ -1,3 +1,5 @@
+//! Words of four and of eight bytes, appended.
+
 ghost use Rattle.std.specs.Prelude.{◌≡◌, ◌^◌, ◌<◌, ◌++◌, OnOk, length, replicate};
 ghost use Rattle.byteorder.specs.Endian.{big_bytes};
 ghost use Rattle.dt_model.specs.Spelling.{padding, padded};
@@ -36,6 +38,7 @@ pub fn push_padding(out: &mut Vec<u8>, count: usize) -> Result<(), AllocError>
     Ok(())
 }
 
+/// How many bytes follow so many up to a multiple of 4.
 fn missing(count: usize) -> usize
     ensures { result ≡ padding count }
 {

@@ -1,3 +1,5 @@
+//! Writing a tree.
+
 ghost use Rattle.std.specs.Prelude.{◌≡◌, ◌<◌, ◌≤◌, ◌+◌, ◌*◌, [], ◌∷◌, ◌++◌, length, IfOk, OnOk, IsErrOf};
 ghost use Rattle.std.specs.Bool.{OnTrue, OnFalse};
 ghost use Rattle.std.specs.List.{flat_map};
@@ -27,7 +29,7 @@ pub fn write(alloc: Global, tree: &Tree) -> Result<Vec<u8>, WriteFault>
     assemble(alloc, tree.boot_cpu, &tree.reserve, &layout)
 }
 
-// Lays out the tokens of the tree.
+/// Lays out the tokens of the tree.
 fn lay_out(alloc: Global, root: &Node) -> Result<Layout<'_>, WriteFault>
     ensures laid { IfOk result (λ layout. layout ≡ with_tokens (record { structure = []; names = [] }) (node_tokens root.now ++ Finish ∷ [])) }
     ensures too_large { IsErrOf result WriteFault.TooLarge
@@ -39,7 +41,7 @@ fn lay_out(alloc: Global, root: &Node) -> Result<Layout<'_>, WriteFault>
     Ok(layout)
 }
 
-// Puts the blocks behind the header.
+/// Puts the blocks behind the header.
 fn assemble(
     alloc: Global,
     boot_cpu: u32,
@@ -73,7 +75,7 @@ fn assemble(
     Ok(blob)
 }
 
-// Whether blocks of these sizes make too large a blob.
+/// Whether blocks of these sizes make too large a blob.
 fn is_too_large(reserve: usize, structure: usize, strings: usize) -> bool
     requires small { reserve ≤ most_bytes }
     requires few { strings ≤ most_bytes }
@@ -83,6 +85,7 @@ fn is_too_large(reserve: usize, structure: usize, strings: usize) -> bool
     structure > MOST_BYTES || 40 + reserve + structure + strings > MOST_BYTES
 }
 
+/// Appends the header.
 fn push_header(
     out: &mut Vec<u8>,
     boot_cpu: u32,
@@ -112,6 +115,7 @@ fn push_header(
     )
 }
 
+/// Appends numbers of four bytes.
 fn push_words(out: &mut Vec<u8>, numbers: &[u32]) -> Result<(), AllocError>
     ensures { OnOk result (out.new.items ≡ out.old.items ++ flat_map word numbers.now) }
 {
@@ -121,6 +125,7 @@ fn push_words(out: &mut Vec<u8>, numbers: &[u32]) -> Result<(), AllocError>
     Ok(())
 }
 
+/// Appends entries of the reserve map.
 fn push_entries(out: &mut Vec<u8>, entries: &[Reserve]) -> Result<(), AllocError>
     ensures { OnOk result (out.new.items ≡ out.old.items ++ flat_map entry_bytes entries.now) }
 {
@@ -130,6 +135,7 @@ fn push_entries(out: &mut Vec<u8>, entries: &[Reserve]) -> Result<(), AllocError
     Ok(())
 }
 
+/// Appends an entry of the reserve map.
 fn push_entry(out: &mut Vec<u8>, entry: &Reserve) -> Result<(), AllocError>
     ensures { OnOk result (out.new.items ≡ out.old.items ++ entry_bytes entry.now) }
 {
@@ -137,6 +143,7 @@ fn push_entry(out: &mut Vec<u8>, entry: &Reserve) -> Result<(), AllocError>
     push_double(out, entry.size)
 }
 
+/// Appends the reserve map with its end.
 fn push_reserve_map(out: &mut Vec<u8>, entries: &[Reserve]) -> Result<(), AllocError>
     ensures { OnOk result (out.new.items ≡ out.old.items ++ reserve_map_of entries.now) }
 {

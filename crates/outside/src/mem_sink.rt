@@ -86,6 +86,7 @@ impl MemSink {
         is_listed(&self.fail, self.calls)
     }
 
+    /// Counts a fault.
     fn count_fault(&mut self)
         ensures counted { self.new ≡ record self.old { faults = raised self.old.faults } }
         ensures rises { self.old.faults ≤ self.new.faults }

@@ -88,6 +88,7 @@ fn index_of(files: &[NamedFile], name: &[u8]) -> usize
     position_of(files, name).unwrap_or(files.len())
 }
 
+/// The index of the first file of that name, if there is one.
 fn position_of(files: &[NamedFile], name: &[u8]) -> Option<usize>
     ensures { result ≡ position (λ f. bytes_eq f.name name.now) files.now }
 {

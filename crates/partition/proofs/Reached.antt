@@ -1,21 +1,13 @@
 -- What the slots of the translations keep, in every machine that is reached.
-use Rattle.std.proofs.Common.{◌≡◌, ℕ, ◌<◌, ◌/◌, ◌%◌, ◌^◌, ◌==◌, Bool, true, false, not, ◌&&◌, cond, None, List, [], ◌∷◌, arith}
-use Rattle.insn.specs.declared.instruction.Op.{Op}
-use Rattle.insn.specs.declared.instruction.Op.TheVariants as op
-use Rattle.insn.specs.Fields.{invalidate_kind}
-use Rattle.guest_regs.specs.Registers.{Registers}
-use Rattle.mas.specs.declared.entry.Entry.{Entry}
-use Rattle.guest_tlb.specs.Invalidation.{ends_all, ends_address}
+use Rattle.std.proofs.Common.{ℕ, ◌<◌, Bool, true, false, ◌&&◌, cond, List, [], ◌∷◌, arith}
 use Rattle.guest_tlb.specs.Kept.{AreKept}
-use Rattle.guest_tlb.proofs.Upkeep.{writes_keep_all, invalidations_keep_all, reset_is_kept}
+use Rattle.guest_tlb.proofs.Upkeep.{reset_is_kept}
 use Rattle.core_step.specs.Step as core
 use Rattle.trap_emulate.specs.declared.cause.Cause.{Cause}
 use Rattle.trap_emulate.specs.declared.cause.Cause.TheVariants as cause
 use Rattle.trap_emulate.specs.Clock.{is_decrementer_pending}
 use Rattle.trap_emulate.specs.Entry.{are_interrupts_enabled, may_enter}
-use Rattle.trap_emulate.specs.Tlb.{Emulated, after_invalidation, mas_of, tlb_write, tlb_invalidate_local, tlb_invalidate}
-use Rattle.trap_emulate.specs.Privileged.{emulated}
-use Rattle.trap_emulate.proofs.Victim.{emulation_keeps_victim}
+use Rattle.trap_emulate.proofs.Translations.{emulation_keeps_victim, emulation_keeps_slots}
 use Rattle.partition.specs.declared.call.Call.{Call}
 use Rattle.partition.specs.declared.call.Call.TheVariants as call
 use Rattle.partition.specs.declared.event.Event.{Event}
@@ -25,40 +17,6 @@ use Rattle.partition.specs.Translated.{lookup, is_translated}
 use Rattle.partition.specs.Step.{Act, NotBuilt, Stepped, quiet, entered, refused, sending, send, served, checked, missed, privileged, handled, instruction, begun, acted, unless_unbuilt, step}
 use Rattle.partition.specs.Event.{apply}
 use Rattle.partition.specs.Reached.{Move, Steps, Takes, moved, after_moves, TranslationsStayApart, TranslationsStaySound, VictimsStayWays}
-
--- ---- privileged instructions
-
-record Keeps (done : Emulated) : Type 0 where
-  slots : AreKept done.slots
-
-either : (b : Bool) (one other : Emulated) → Keeps one → Keeps other → Keeps (cond b one other)
-either true one other h k = h
-either false one other h k = k
-
-written : (registers : Registers) (slots : List Entry) (nv : ℕ) → AreKept slots → Keeps (tlb_write registers slots nv)
-unfolding tlb_write
-written registers slots nv h = record { slots = writes_keep_all (mas_of registers) slots h }
-
-ended_local : (word : ℕ) (registers : Registers) (slots : List Entry) (nv : ℕ) → AreKept slots → Keeps (tlb_invalidate_local word registers slots nv)
-unfolding tlb_invalidate_local
-ended_local word registers slots nv h =
-    either (invalidate_kind word == 0) _ _ (record { slots = invalidations_keep_all _ slots h })
-    (either (invalidate_kind word == 1) _ _ (record { slots = invalidations_keep_all _ slots h })
-    (either (invalidate_kind word == 3) _ _ (record { slots = invalidations_keep_all _ slots h }) (record { slots = h })))
-
-ended : (ea : ℕ) (registers : Registers) (slots : List Entry) (nv : ℕ) → AreKept slots → Keeps (tlb_invalidate ea registers slots nv)
-unfolding tlb_invalidate
-ended ea registers slots nv h =
-    let second : Bool = ea / 2 ^ 3 % 2 == 1 in
-    either (ea / 2 ^ 2 % 2 == 1) (after_invalidation (ends_all (not second) second) registers slots nv) (after_invalidation (ends_address ea None (not second) second) registers slots nv)
-    (record { slots = invalidations_keep_all _ slots h }) (record { slots = invalidations_keep_all _ slots h })
-
-by_row : (operation : Op) (word : ℕ) (registers : Registers) (slots : List Entry) (nv : ℕ) → AreKept slots → Keeps (emulated operation word registers slots nv)
-unfolding emulated
-by_row op.Tlbwe word registers slots nv h = written registers slots nv h
-by_row op.Tlbilx word registers slots nv h = ended_local word registers slots nv h
-by_row op.Tlbivax word registers slots nv h = ended _ registers slots nv h
-by_row _ word registers slots nv h = record { slots = h }
 
 -- ---- the step
 
@@ -105,7 +63,7 @@ stays_missed reason space ea machine h =
 stays_privileged : (machine : Machine) (insn : _) → AreSound machine → Stays (privileged insn machine)
 unfolding privileged
 stays_privileged machine insn h = record {
-  slots = (by_row insn.op insn.word machine.registers machine.translations machine.next_victim h.slots).slots;
+  slots = emulation_keeps_slots insn.op insn.word machine.next_victim machine.registers machine.translations h.slots;
   victim = emulation_keeps_victim insn.op insn.word machine.next_victim machine.registers machine.translations h.victim;
 }
 

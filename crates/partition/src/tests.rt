@@ -110,7 +110,13 @@ struct Ending {
     registers: &'static [(u8, u32)],
 }
 
-const ENDINGS: [Ending; 9] = [
+const ENDINGS: [Ending; 10] = [
+    // tlbre of a slot of TLB0 that was never written, and mfspr r24,MAS1
+    Ending {
+        image: &[0x7C00_0764, 0x7F11_9AA6],
+        steps: 2,
+        registers: &[(24, 0x100)],
+    },
     Ending {
         image: &CLOCK,
         steps: 17,

@@ -12,11 +12,12 @@ use std::rt::{Env, Files};
 use topaz_run::topaz;
 use words::{NoWords, words};
 
+/// Ends with the exit status of the program.
 fn main(rt: HostRuntime) -> ExitCode {
     ExitCode::from(run(&rt))
 }
 
-// Runs the program, and answers its exit status.
+/// Runs the program, and answers its exit status.
 fn run<R: Env + Files + Print + AllocGlobal>(rt: &R) -> u8 {
     let words = match words(rt) {
         Ok(words) => words,

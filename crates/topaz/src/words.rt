@@ -1,15 +1,17 @@
+//! The words of the command line.
+
 use std::env;
 use std::io::ErrorKind;
 use std::rt::Env;
 
-// Why there are no words.
+/// Why there are no words.
 pub enum NoWords {
     // A word isn't UTF-8.
     Usage,
     NoMemory,
 }
 
-// The words after the program's name.
+/// The words after the program's name.
 pub fn words<R: Env + AllocGlobal>(rt: &R) -> Result<Vec<String>, NoWords> {
     let all = match env::args(rt) {
         Ok(all) => all,

@@ -4,7 +4,7 @@ use Rattle.std.specs.Str.{bytes_eq}
 use Rattle.std.specs.Str.Parse.{digits_value, ParsesUnsigned}
 use Rattle.std.proofs.lemmas.Fmt.{parse-decimal, decimal_is_IsNumeral}
 use Rattle.std.proofs.lemmas.Slice.Eq.{bytes_eq-Decides}
-use Rattle.std.proofs.lemmas.Bool.{leb-true}
+use Rattle.std.proofs.lemmas.Bool.{leb-true, and_parts}
 use Rattle.topaz_run.specs.Number.{number_of}
 
 -- the text spells the number, which is small enough
@@ -15,13 +15,8 @@ abbrev pub spelled_within : {E : Type 0} → ℕ → List ℕ → Result ℕ E �
 spelled_within most text (Ok n) = cond (is_spelled most text n) (Some n) None
 spelled_within most text (Err e) = None
 
-both : (a b : Bool) → (a && b) ≡ true → (a ≡ true) × (b ≡ true)
-both true true h = (refl, refl)
-both true false h = absurd (cc)
-both false b h = absurd (cc)
-
 spells : (most : ℕ) (text : List ℕ) (n : ℕ) → is_spelled most text n ≡ true → (n ≤ most) × (text ≡ decimal n)
-spells most text n h = let p = both (nat_le n most) (bytes_eq text (decimal n)) h in (leb-true n most p.0, (bytes_eq-Decides text (decimal n)).0 p.1)
+spells most text n h = let p = and_parts (nat_le n most) (bytes_eq text (decimal n)) h in (leb-true n most p.0, (bytes_eq-Decides text (decimal n)).0 p.1)
 
 -- what a spelled number is parsed to
 parsed : {E : Type 0} (most : ℕ) (text : List ℕ) (n : ℕ) (r : Result ℕ E) → most < 2 ^ 64 → ParsesUnsigned 64 10 text r

@@ -2,7 +2,7 @@
 use Rattle.std.specs.Prelude.{ℕ, zero, suc, ◌+◌, Bool, true, false, List, [], ◌++◌, length, codes, if◌then◌else◌}
 use Rattle.partition.specs.declared.event.Event.TheVariants.{Room}
 use Rattle.partition.specs.Machine.{Machine, boot}
-use Rattle.partition.specs.Step.{Act, Nothing, Sends, Faults, Unbuilt, step}
+use Rattle.partition.specs.Step.{Act, Quiet, Sent, Faulted, NotBuilt, step}
 use Rattle.partition.specs.Event.{apply}
 use Rattle.topaz_run.specs.Text.{sent_line, faulted_line, state_word, end_line, console_line, refused_line, step_place}
 
@@ -30,18 +30,18 @@ abbrev pub printing : World → Machine → ℕ → List ℕ → World
 printing world stepped handle bytes = record { machine = apply stepped (Room handle (length bytes)); printed = world.printed + length bytes }
 
 abbrev pub turned : World → Machine → Act → Turned
-turned world stepped Nothing = record { after = record world { machine = stepped }; line = []; is_built = true }
-turned world stepped (Sends handle bytes) = record {
+turned world stepped Quiet = record { after = record world { machine = stepped }; line = []; is_built = true }
+turned world stepped (Sent handle bytes) = record {
   after = printing world stepped handle bytes;
   line = sent_line guest stepped.steps handle bytes;
   is_built = true;
 }
-turned world stepped Faults = record {
+turned world stepped Faulted = record {
   after = record world { machine = stepped };
   line = faulted_line guest stepped.steps;
   is_built = true;
 }
-turned world stepped Unbuilt = record {
+turned world stepped NotBuilt = record {
   after = world;
   line = refused_line (codes "N1") (step_place (world.machine.steps + 1));
   is_built = false;

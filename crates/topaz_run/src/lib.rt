@@ -27,4 +27,6 @@ pub use top_call::topaz;
 #[cfg(test)]
 mod blob_tests;
 #[cfg(test)]
+mod images;
+#[cfg(test)]
 mod tests;

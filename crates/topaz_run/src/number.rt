@@ -21,6 +21,7 @@ pub fn number(text: &str, most: u64) -> Option<u64>
     }
 }
 
+/// Whether the text is the decimal spelling of the value.
 fn is_spelled(text: &str, value: u64) -> bool
     ensures { result ≡ bytes_eq text.now (decimal value) }
 {
