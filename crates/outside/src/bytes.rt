@@ -7,6 +7,7 @@ ghost use Rattle.std.proofs.Common.{rules};
 
 use crate::memory::NoMemory;
 use std::alloc::Global;
+use std::convert::AsSlice;
 use std::marker::Model;
 
 /// A list of bytes on the heap. Contracts see the list.
@@ -19,6 +20,14 @@ impl Model for Bytes {
     ghost Value = { List ℕ };
 
     ghost view = { λ b. b.items.items };
+}
+
+impl AsSlice<u8> for Bytes {
+    ghost items = { λ b. b };
+
+    fn as_slice(&self) -> &[u8] {
+        self.items.as_slice()
+    }
 }
 
 impl PartialEq for Bytes {
