@@ -12,7 +12,7 @@ use Rattle.guest_regs.specs.Kept.{IsWord, AreKept, AreWords}
 use Rattle.guest_regs.proofs.Lists.{each_set}
 use Rattle.guest_regs.proofs.Masks.{mask_twice, offset_set}
 
-words_set : (count n value : ℕ) (values : List ℕ) → IsWord value → AreWords count values → AreWords count (slice_set values n value)
+pub words_set : (count n value : ℕ) (values : List ℕ) → IsWord value → AreWords count values → AreWords count (slice_set values n value)
 words_set count n value values small words = record {
   number = length-set values n value ∙ words.number;
   each = each_set IsWord value values n small words.each;

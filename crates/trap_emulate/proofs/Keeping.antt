@@ -1,5 +1,5 @@
 -- What a core keeps stays through instructions, interrupts and time.
-use Rattle.std.proofs.Common.{rules, arith, subst, ◌∙◌, ◌≡◌, ℕ, ◌+◌, ◌-◌, ◌*◌, ◌/◌, ◌%◌, ◌^◌, ◌<◌, ◌≤◌, ◌==◌, Bool, true, false, nat_lt, if◌then◌else◌, List, slice_index, slice_set, length-set, bit_and, bit_or, Option, Some, None}
+use Rattle.std.proofs.Common.{rules, arith, subst, ◌≡◌, ℕ, ◌+◌, ◌-◌, ◌*◌, ◌/◌, ◌%◌, ◌^◌, ◌<◌, ◌≤◌, ◌==◌, Bool, true, false, nat_lt, if◌then◌else◌, List, slice_index, bit_and, bit_or, Option, Some, None}
 use Rattle.std.specs.Int.{w32, bit_not}
 use Rattle.std.proofs.lemmas.Nat.{and_le_r, or_lt}
 use Rattle.insn.specs.declared.instruction.Op.{Op}
@@ -7,8 +7,8 @@ use Rattle.insn.specs.declared.instruction.Op.TheVariants as op
 use Rattle.insn.specs.Fields.{rt_field, ra_field, rb_field, enable_bit}
 use Rattle.guest_regs.specs.State.{is_set, critical_enable, external_enable, machine_check_enable, state_bits, guest_state, store_syndrome}
 use Rattle.guest_regs.specs.Registers.{Registers, gpr_of, with_gpr, indexed_address, instruction_address, advanced, machine_state, data_space, instruction_space, mas7_bits}
-use Rattle.guest_regs.specs.Kept.{IsWord, HasOnly, AreWords, AreKept}
-use Rattle.guest_regs.proofs.Lists.{each_set}
+use Rattle.guest_regs.specs.Kept.{IsWord, HasOnly, AreKept}
+use Rattle.guest_regs.proofs.Keeping.{words_set}
 use Rattle.guest_regs.proofs.Masks.{masked_bound, state_twice}
 use Rattle.mas.specs.declared.registers.Mas.{Mas}
 use Rattle.mas.specs.declared.entry.Entry.{Entry}
@@ -155,7 +155,7 @@ returned_keeps address state r word h = pc_keeps (record r { msr = machine_state
 
 gpr_keeps : (r : Registers) (n value : ℕ) → IsWord value → AreKept r → AreKept (with_gpr r n value)
 gpr_keeps r n value word h =
-    let general : AreWords 32 (slice_set r.gpr n value) = record { number = length-set r.gpr n value ∙ h.gpr.number; each = each_set IsWord value r.gpr n word h.gpr.each } in
+    let general = words_set 32 n value r.gpr word h.gpr in
     search (rules, general, h)
 
 state_word : (r : Registers) → AreKept r → IsWord r.msr
