@@ -219,10 +219,9 @@ the_row [] registers = record { effect = Illegal; after = registers }
 the_row (Some row ∷ others) registers = row
 the_row (None ∷ others) registers = the_row others registers
 
--- What an instruction does: its row in the tables.
-unfoldable pub exec_of : Op → ℕ → Registers → Executed
-exec_of operation word registers =
-    the_row (
+-- what each table has of an instruction
+abbrev pub rows_of : Op → ℕ → Registers → List (Option Executed)
+rows_of operation word registers =
     branches_of operation word registers
     ∷ transfers_of operation word registers
     ∷ sums_of operation word registers
@@ -234,7 +233,10 @@ exec_of operation word registers =
     ∷ storage_of operation word registers
     ∷ privileged_of operation word registers
     ∷ []
-    ) registers
+
+-- What an instruction does: its row in the tables.
+unfoldable pub exec_of : Op → ℕ → Registers → Executed
+exec_of operation word registers = the_row (rows_of operation word registers) registers
 
 -- the registers change for Done alone
 abbrev pub KeepsUnlessDone : Effect → Registers → Registers → Type 0
