@@ -6,9 +6,9 @@ use Rattle.insn_alu.specs.declared.transfer.Kind.TheVariants.{Exclusive}
 use Rattle.insn_alu.specs.Transfers.{size_of}
 
 -- one byte, 0 or 1, for the store under a reservation
-abbrev pub TellsWhether : Kind → List ℕ → Type 0
-TellsWhether Exclusive bytes = (length bytes ≡ 1) × (slice_index bytes 0 ≤ 1)
-TellsWhether _ bytes = ⊤
+abbrev pub SaysWhether : Kind → List ℕ → Type 0
+SaysWhether Exclusive bytes = (length bytes ≡ 1) × (slice_index bytes 0 ≤ 1)
+SaysWhether _ bytes = ⊤
 
 abbrev pub Finishes : Kind → Bool → ℕ → List ℕ → Type 0
-Finishes kind store word bytes = MatchBool store (TellsWhether kind bytes) (length bytes ≡ size_of kind word)
+Finishes kind store word bytes = MatchBool store (SaysWhether kind bytes) (length bytes ≡ size_of kind word)

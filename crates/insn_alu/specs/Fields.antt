@@ -40,7 +40,7 @@ carry registers = registers.xer / 2 ^ 29 % 2
 abbrev pub with_carry : ℕ → Registers → Registers
 with_carry value registers = with_xer (replaced 2 (2 ^ 29) value registers.xer) registers
 
--- OV tells of this overflow, and SO of this or an earlier one
+-- OV is set where this overflows, and SO where this or an earlier one did
 abbrev pub with_overflow : Bool → Registers → Registers
 with_overflow here registers = with_xer (replaced 4 (2 ^ 30) (if here then 3 else 2 * summary registers) registers.xer) registers
 
@@ -89,7 +89,7 @@ result_recorded n value registers = advanced (recorded value (with_gpr registers
 unfoldable pub result_in_form : ℕ → ℕ → ℕ → Registers → Registers
 result_in_form word n value registers = if record_bit word == 1 then result_recorded n value registers else result_in n value registers
 
--- An arithmetic result goes to RT; where OE is 1, OV and SO tell whether it fits.
+-- An arithmetic result goes to RT; where OE is 1, OV and SO say whether it fits.
 unfoldable pub arithmetic : ℕ → ℕ → Bool → Registers → Registers
 arithmetic word value overflow registers =
     result_in_form word (rt_field word) value (if overflow_bit word == 1 then with_overflow overflow registers else registers)

@@ -143,15 +143,15 @@ filled Words word bytes registers =
     record registers { gpr = take (rt_field word) registers.gpr ++ words_in (32 - rt_field word) bytes }
 filled kind word bytes registers = with_gpr registers (rt_field word) (loaded kind bytes)
 
--- stwcx. tells in CR0 whether it stored: 0, 0, that, SO. Its one byte is 1 where it did.
-unfoldable pub told : Kind → List ℕ → Registers → Registers
-told Exclusive bytes registers = record registers { cr = with_field registers.cr 0 (2 * slice_index bytes 0 + summary registers) }
-told _ bytes registers = registers
+-- stwcx. reports in CR0 whether it stored: 0, 0, that, SO. Its one byte is 1 where it did.
+unfoldable pub reported : Kind → List ℕ → Registers → Registers
+reported Exclusive bytes registers = record registers { cr = with_field registers.cr 0 (2 * slice_index bytes 0 + summary registers) }
+reported _ bytes registers = registers
 
 -- The registers after an access that was made. The address was found before, and goes to RA last.
 unfoldable pub finished : Transfer → ℕ → List ℕ → Registers → Registers
 finished transfer word bytes registers =
-    let moved : Registers = if transfer.store then told transfer.kind bytes registers else filled transfer.kind word bytes registers in
+    let moved : Registers = if transfer.store then reported transfer.kind bytes registers else filled transfer.kind word bytes registers in
     advanced (updated transfer.addressing word (effective transfer.addressing word registers) moved)
 
 -- the bytes that a store puts into storage
@@ -172,7 +172,7 @@ transfer_effect None word registers = Illegal
 transfer_effect (Some transfer) word registers = Memory (accessed transfer word registers)
 
 -- What finish_load is owed: exec answers an access, and the bytes finish it. Those of a load are all that it accessed; a store has
--- none, but stwcx. the one that tells whether it stored.
+-- none, but stwcx. the one that says whether it stored.
 abbrev pub IsFinishedBy : Effect → List ℕ → Type 0
 IsFinishedBy (Memory access) bytes =
     MatchBool access.store (access.form ≡ form.Conditional → (length bytes ≡ 1) × (slice_index bytes 0 ≤ 1)) (length bytes ≡ access.len)

@@ -3,8 +3,8 @@
 ghost use Rattle.std.specs.Prelude.{◌≡◌, ℕ, ◌<◌, ◌≤◌, ◌*◌, ◌-◌, ◌+◌, ◌%◌, ◌++◌, length, true, false};
 ghost use Rattle.std.specs.Int.{w16, w32, from_be_bytes, from_le_bytes, to_be_bytes, to_le_bytes};
 ghost use Rattle.arrayvec.specs.ArrayVec.{array_vec_len};
-ghost use Rattle.insn_alu.specs.Completion.{TellsWhether, Finishes};
-ghost use Rattle.insn_alu.specs.Transfers.{transfer_of, effective, size_of, form_of, accessed, updated, loaded, filled, told, finished, stored_bytes, transfer_effect, IsFinishedBy, finished_by, IsStore, stored_by};
+ghost use Rattle.insn_alu.specs.Completion.{SaysWhether, Finishes};
+ghost use Rattle.insn_alu.specs.Transfers.{transfer_of, effective, size_of, form_of, accessed, updated, loaded, filled, reported, finished, stored_bytes, transfer_effect, IsFinishedBy, finished_by, IsStore, stored_by};
 
 use crate::effect::{Access, Form};
 use crate::fields::{a_of, b_of, base_of, extended_immediate, replace_field, s_of, summary_of};
@@ -167,11 +167,11 @@ fn fill(kind: Kind, insn: Insn, regs: &mut Regs, bytes: &[u8])
     }
 }
 
-/// CR0 tells whether a conditional store was made.
-#[tactic(auto, unfolding(crate::specs::Transfers::told))]
-fn tell(kind: Kind, regs: &mut Regs, bytes: &[u8])
-    requires { TellsWhether kind bytes.now }
-    ensures { regs.new ≡ told kind bytes.now regs.old }
+/// CR0 reports whether a conditional store was made.
+#[tactic(auto, unfolding(crate::specs::Transfers::reported))]
+fn report(kind: Kind, regs: &mut Regs, bytes: &[u8])
+    requires { SaysWhether kind bytes.now }
+    ensures { regs.new ≡ reported kind bytes.now regs.old }
 {
     match kind {
         Kind::Exclusive => {
@@ -190,7 +190,7 @@ fn finish(transfer: Transfer, insn: Insn, regs: &mut Regs, bytes: &[u8])
 {
     let address = effective_of(transfer.addressing, insn, regs);
     if transfer.store {
-        tell(transfer.kind, regs, bytes);
+        report(transfer.kind, regs, bytes);
     } else {
         fill(transfer.kind, insn, regs, bytes);
     }

@@ -74,7 +74,7 @@ pub fn carry_of(regs: &Regs) -> u32
     regs.xer() / 0x2000_0000 % 2
 }
 
-/// Tells a carry, or none, in CA.
+/// CA is set to a carry, or to none.
 pub fn set_carry(regs: &mut Regs, value: u32)
     requires { value < 2 }
     ensures { regs.new ≡ with_carry value regs.old }
@@ -83,12 +83,12 @@ pub fn set_carry(regs: &mut Regs, value: u32)
     regs.set_xer(xer);
 }
 
-/// Tells of an overflow, or of none, in OV, and in SO of this or an earlier one.
+/// OV is set to an overflow, or to none, and SO where one was here or earlier.
 pub fn set_overflow(regs: &mut Regs, here: bool)
     ensures { regs.new ≡ with_overflow here regs.old }
 {
-    let told = if here { 3 } else { 2 * summary_of(regs) };
-    let xer = replace(regs.xer(), 4, 0x4000_0000, told as u64);
+    let bits = if here { 3 } else { 2 * summary_of(regs) };
+    let xer = replace(regs.xer(), 4, 0x4000_0000, bits as u64);
     regs.set_xer(xer);
 }
 
@@ -186,7 +186,7 @@ pub fn set_in_form(insn: Insn, regs: &mut Regs, number: u8, value: u32)
     }
 }
 
-/// RT takes an arithmetic result. OV and SO tell whether it fits, where OE is 1.
+/// RT takes an arithmetic result. OV and SO say whether it fits, where OE is 1.
 #[tactic(auto, unfolding(crate::specs::Fields::arithmetic))]
 pub fn set_arithmetic(insn: Insn, regs: &mut Regs, value: u32, overflow: bool)
     ensures { regs.new ≡ arithmetic insn.word value overflow regs.old }

@@ -32,7 +32,7 @@ fn carry_out(sum: u64) -> u32
     (sum / 0x1_0000_0000) as u32
 }
 
-/// RT takes a sum of two words and a carry. OV and SO tell whether it fits, where OE is 1.
+/// RT takes a sum of two words and a carry. OV and SO say whether it fits, where OE is 1.
 #[tactic(auto, unfolding(crate::specs::Rows::sum_row))]
 pub fn add_up(insn: Insn, regs: &mut Regs, left: u32, right: u32, carry: u32)
     requires { carry < 2 }

@@ -477,7 +477,7 @@ fn stores(rt: HostRuntime) -> Result<(), Fail> {
         (0x1000, 64, Form::Zero)
     );
     assert_eq!(rt; piece.as_slice(), [0; 64].as_slice());
-    // stwcx. tells in CR0 whether it stored, with SO
+    // stwcx. reports in CR0 whether it stored, with SO
     for (made, xer, cr) in [
         (0, 0, 0x0FFF_FFFF),
         (1, 0, 0x2FFF_FFFF),

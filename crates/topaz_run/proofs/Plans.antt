@@ -32,29 +32,29 @@ meets_alike (Ok bytes) meaning other same is = same ∙ is
 meets_alike (Err s) meaning other same is = stops_alike s meaning other same is
 
 -- an early end is one of a longer file's plan
-pub too_long : (told : Option Content) (name place : List ℕ) (s : Stop) → IsLonger told name file_limit → Stops s (refusal (codes "F1") place)
-    → IfSome told (λ content. (next : List ℕ → Plan) → Stops s (outcome_of content (Opens name place next)))
+pub too_long : (known : Option Content) (name place : List ℕ) (s : Stop) → IsLonger known name file_limit → Stops s (refusal (codes "F1") place)
+    → IfSome known (λ content. (next : List ℕ → Plan) → Stops s (outcome_of content (Opens name place next)))
 too_long None name place s long is = tt
 too_long (Some content) name place s long is = λ next. stops_alike s _ _ (longer (file_of content name) place _ long) is
 
 -- what was read whole, and within the limit
-pub is_read : (told : Option Content) (name bytes : List ℕ) → IsFile told name bytes → length bytes ≤ file_limit → IfSome told (λ content. IsRead content name bytes)
+pub is_read : (known : Option Content) (name bytes : List ℕ) → IsFile known name bytes → length bytes ≤ file_limit → IfSome known (λ content. IsRead content name bytes)
 is_read None name bytes is short = tt
 is_read (Some content) name bytes is short = record { is = is; short = short }
 
 -- ---- a function that reads a file first
 
 -- an early end there is the plan's, however it goes on
-pub ends_early : (told : Option Content) (name place : List ℕ) (next : List ℕ → Plan) (s : Stop)
-    → IfSome told (λ content. (next : List ℕ → Plan) → Stops s (outcome_of content (Opens name place next)))
-    → IfSome told (λ content. Stops s (outcome_of content (Opens name place next)))
+pub ends_early : (known : Option Content) (name place : List ℕ) (next : List ℕ → Plan) (s : Stop)
+    → IfSome known (λ content. (next : List ℕ → Plan) → Stops s (outcome_of content (Opens name place next)))
+    → IfSome known (λ content. Stops s (outcome_of content (Opens name place next)))
 ends_early None name place next s stops = tt
 ends_early (Some content) name place next s stops = stops next
 
 -- what it makes of the bytes is what the plan comes to
-pub ends_with : (told : Option Content) (name place bytes : List ℕ) (meaning : List ℕ → Outcome) (r : Result (List ℕ) Stop)
-    → IfSome told (λ content. IsRead content name bytes) → Meets r (meaning bytes)
-    → IfSome told (λ content. Meets r (outcome_of content (Opens name place (λ bytes. Ends (meaning bytes)))))
+pub ends_with : (known : Option Content) (name place bytes : List ℕ) (meaning : List ℕ → Outcome) (r : Result (List ℕ) Stop)
+    → IfSome known (λ content. IsRead content name bytes) → Meets r (meaning bytes)
+    → IfSome known (λ content. Meets r (outcome_of content (Opens name place (λ bytes. Ends (meaning bytes)))))
 ends_with None name place bytes meaning r read meets = tt
 ends_with (Some content) name place bytes meaning r read meets =
     meets_alike r _ _ (goes_on content name place bytes (λ bytes. Ends (meaning bytes)) read) meets

@@ -27,22 +27,22 @@ pub record IsRead (content : Content) (name bytes : List ℕ) : Type 0 where
 
 -- The status is that of the outcome, and the taken bytes grew by its text. Nothing is said where a file or the sink failed, or
 -- memory ran out.
-abbrev pub Tells : Status → Option (List ℕ) → Option (List ℕ) → Outcome → Type 0
-Tells status.Ok old new (Done text) = Appends old new text
-Tells status.Ok old new Misused = ⊥
-Tells status.Ok old new Lacking = ⊥
-Tells status.Ok old new (Refused text) = ⊥
-Tells status.Refused old new (Refused text) = Appends old new text
-Tells status.Refused old new Misused = ⊥
-Tells status.Refused old new Lacking = ⊥
-Tells status.Refused old new (Done text) = ⊥
-Tells status.Usage old new Misused = Keeps old new
-Tells status.Usage old new Lacking = ⊥
-Tells status.Usage old new (Refused text) = ⊥
-Tells status.Usage old new (Done text) = ⊥
-Tells status.ReadFault old new outcome = ⊤
-Tells status.WriteFault old new outcome = ⊤
-Tells status.NoMemory old new outcome = ⊤
+abbrev pub IsAnswerTo : Status → Option (List ℕ) → Option (List ℕ) → Outcome → Type 0
+IsAnswerTo status.Ok old new (Done text) = Appends old new text
+IsAnswerTo status.Ok old new Misused = ⊥
+IsAnswerTo status.Ok old new Lacking = ⊥
+IsAnswerTo status.Ok old new (Refused text) = ⊥
+IsAnswerTo status.Refused old new (Refused text) = Appends old new text
+IsAnswerTo status.Refused old new Misused = ⊥
+IsAnswerTo status.Refused old new Lacking = ⊥
+IsAnswerTo status.Refused old new (Done text) = ⊥
+IsAnswerTo status.Usage old new Misused = Keeps old new
+IsAnswerTo status.Usage old new Lacking = ⊥
+IsAnswerTo status.Usage old new (Refused text) = ⊥
+IsAnswerTo status.Usage old new (Done text) = ⊥
+IsAnswerTo status.ReadFault old new outcome = ⊤
+IsAnswerTo status.WriteFault old new outcome = ⊤
+IsAnswerTo status.NoMemory old new outcome = ⊤
 
 -- after Ok and Refused every taken byte is flushed
 abbrev pub Flushes : Status → Bool → Type 0

@@ -6,7 +6,7 @@ ghost use Rattle.outside.specs.Taken.{AppendsFront};
 ghost use Rattle.topaz_run.specs.Words.{KeepsLimits, command_of};
 ghost use Rattle.topaz_run.specs.Plan.{Done, outcome_of, needs_of};
 ghost use Rattle.topaz_run.specs.Outcome.{plan_of, outcome, needs, text_of};
-ghost use Rattle.topaz_run.specs.Answers.{Tells, Flushes, LeavesSink, Meets};
+ghost use Rattle.topaz_run.specs.Answers.{IsAnswerTo, Flushes, LeavesSink, Meets};
 ghost use Rattle.topaz_run.specs.Meant.{meant};
 
 use crate::bare::bare;
@@ -27,7 +27,7 @@ pub fn topaz<F: Files, S: Sink>(
 ) -> Status
     // The status and the bytes written are those of the outcome.
     ensures answer { IfSome (F.content files.old) (λ content.
-        Tells result (S.taken out.old) (S.taken out.new) (outcome (map string_bytes words.now) content)) }
+        IsAnswerTo result (S.taken out.old) (S.taken out.new) (outcome (map string_bytes words.now) content)) }
     ensures flushed { Flushes result (S.is_flushed out.new) }
 
     // The causes of the other answers.
