@@ -1,11 +1,11 @@
 -- A reserve map entry by entry.
-use Rattle.std.proofs.Common.{◌≡◌, ℕ, zero, suc, ◌+◌, ◌-◌, ◌<◌, ◌≤◌, true, false, eqb, List, [], ◌∷◌, ◌++◌, length, drop, refl, sym, ap, ◌∙◌, append_assoc, arith}
+use Rattle.std.proofs.Common.{◌≡◌, ℕ, zero, suc, ◌+◌, ◌-◌, ◌<◌, ◌≤◌, true, false, List, [], ◌∷◌, ◌++◌, length, drop, refl, sym, ap, ◌∙◌, append_assoc, arith}
 use Rattle.std.specs.List.{list_all}
-use Rattle.std.proofs.lemmas.Bool.{lt-ltb, le-ltb, and_parts, eqb-true, not-false}
+use Rattle.std.proofs.lemmas.Bool.{lt-ltb, le-ltb, and_parts}
 use Rattle.std.proofs.lemmas.List.{length-append}
 use Rattle.dt_model.specs.declared.Reserve.{Reserve}
 use Rattle.dt_model.specs.Fit.{is_entry}
-use Rattle.dt_model.specs.Reserve.{entry_of, last_entry, IsReserveMap}
+use Rattle.dt_model.specs.Reserve.{entry_of, IsReserveMap}
 use Rattle.dt_model.specs.Fault.{lacks_end}
 use Rattle.dt_model.proofs.Existence.{last_of}
 

@@ -1,5 +1,5 @@
 -- The structure block of a canonical blob spells the tree's tokens.
-use Rattle.std.proofs.Common.{◌≡◌, ℕ, ◌+◌, ◌<◌, ◌≤◌, ◌^◌, Bool, true, false, ◌&&◌, ◌||◌, not, ◌==◌, nat_lt, List, [], ◌∷◌, ◌++◌, length, drop, replicate, Option, Some, None, cond, refl, sym, ap, ◌∙◌, arith, append_assoc, append-nil, length-append}
+use Rattle.std.proofs.Common.{◌≡◌, ℕ, ◌+◌, ◌<◌, ◌≤◌, ◌^◌, Bool, true, false, ◌&&◌, ◌||◌, not, ◌==◌, nat_lt, List, [], ◌∷◌, ◌++◌, length, drop, replicate, Some, None, cond, refl, sym, ap, ◌∙◌, arith, append_assoc, append-nil, length-append}
 use Rattle.std.specs.List.{list_all}
 use Rattle.std.specs.Str.{bytes_eq}
 use Rattle.std.proofs.lemmas.List.{drop_at, drop-drop}
@@ -9,7 +9,7 @@ use Rattle.byteorder.specs.Endian.{big_number}
 use Rattle.byteorder.specs.Numbers.{big_number-reads_back, length-bytes_high_first}
 use Rattle.dt_model.specs.Name.{has, is_name_of, is_node_name, is_node_char, is_property_char}
 use Rattle.dt_model.specs.Token.{Token, BeginNode, Prop, EndNode, Nop, Finish}
-use Rattle.dt_model.specs.Rule.{broken_by_begin, broken_by_property, or_else, first_broken, is_begun, is_inside, node_count, depth, children_back}
+use Rattle.dt_model.specs.Rule.{broken_by_begin, broken_by_property, first_broken, is_begun, is_inside, node_count, depth, children_back}
 use Rattle.dt_model.specs.Spelling.{padding, padded, IsWord, HasNoNul, BeginsWith, Spells, SpellsAll}
 use Rattle.dt_model.specs.Canonical.{word, with_name, names_after, offset_of, strings_of, spelling, structure_of}
 use Rattle.dt_model.proofs.Rules.{or_else-is_none, cond-is_none}

@@ -6,7 +6,7 @@ use Rattle.std.proofs.lemmas.Grind.{flat_map-append}
 use Rattle.std.proofs.Math.ListN.{drop_of_length-le}
 use Rattle.dt_model.specs.declared.tree.Node.{Node}
 use Rattle.dt_model.specs.declared.tree.Node.TheOpen.{Node-F}
-use Rattle.dt_model.specs.declared.tree.Node.TheViews.{out-Node, roll-out-Node}
+use Rattle.dt_model.specs.declared.tree.Node.TheViews.{out-Node}
 use Rattle.dt_model.specs.declared.tree.Property.{Property}
 use Rattle.dt_model.specs.Name.{has}
 use Rattle.dt_model.specs.Token.{Token, BeginNode, Prop, EndNode, Nop, Finish}
