@@ -9,3 +9,5 @@ pub mod Rows
 pub mod Existence
 pub mod Rewritten
 pub mod Names
+pub mod Kept
+pub mod Texts

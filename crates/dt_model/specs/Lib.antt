@@ -12,3 +12,4 @@ pub mod Fault
 pub mod Walk
 pub mod Typed
 pub mod Canonical
+pub mod Kept

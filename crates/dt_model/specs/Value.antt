@@ -1,6 +1,7 @@
 -- What the bytes of a property's value mean (ePAPR 1.1, 2.2.4 "Properties").
-use Rattle.std.specs.Prelude.{◌≡◌, IsTrue, ℕ, Bool, ◌&&◌, nat_le, ◌==◌, if◌then◌else◌, List, [], ◌∷◌, ◌++◌, length, Option, Some, None}
+use Rattle.std.specs.Prelude.{◌≡◌, IsTrue, ℕ, ◌-◌, Bool, ◌&&◌, nat_le, ◌==◌, if◌then◌else◌, List, [], ◌∷◌, ◌++◌, take, length, Option, Some, None}
 use Rattle.std.specs.List.{list_all}
+use Rattle.std.specs.Str.{bytes_eq}
 use Rattle.byteorder.specs.Endian.{big_number}
 
 -- four bytes, the highest first
@@ -22,3 +23,9 @@ is_text text = nat_le 1 (length text) && nat_le (length text) 255 && list_all is
 -- the value is this text and the NUL that ends it
 abbrev pub IsTextValue : List ℕ → List ℕ → Type 0
 IsTextValue value text = (value ≡ text ++ 0 ∷ []) × IsTrue (is_text text)
+
+-- the text in a value: what stands before the NUL that ends it
+unfoldable pub text_in : List ℕ → Option (List ℕ)
+text_in value =
+    let text = take (length value - 1) value in
+    if bytes_eq value (text ++ 0 ∷ []) && is_text text then Some text else None

@@ -18,7 +18,7 @@ mod value;
 pub use fitting::fits;
 pub use law::{
     blobs_have_no_fault, blobs_have_one_tree, bytes_without_a_fault_have_a_tree,
-    rewritten_is_canonical, rows_are_those_of_the_tokens,
+    fitting_trees_keep_names_apart, rewritten_is_canonical, rows_are_those_of_the_tokens,
 };
 pub use lookup::{find_phandle, node_at, prop};
 pub use name::{is_node_name, is_property_name};

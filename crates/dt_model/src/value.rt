@@ -2,8 +2,9 @@
 
 ghost use Rattle.std.specs.Prelude.{◌≡◌, List, ℕ, IfSome, IfNone};
 ghost use Rattle.std.specs.List.{list_all};
+ghost use Rattle.std.specs.Option.{option_copied};
 ghost use Rattle.dt_model.specs.Value as spec;
-ghost use Rattle.dt_model.specs.Value.{u32_in, u64_in, IsTextValue};
+ghost use Rattle.dt_model.specs.Value.{u32_in, u64_in, text_in, IsTextValue};
 
 use byteorder::{BigEndian, ByteOrder};
 
@@ -43,9 +44,8 @@ fn are_printable(bytes: &[u8]) -> bool
     bytes.iter().all(|byte| is_printable(*byte))
 }
 
-/// The text in a value without the NUL that ends it. `None` where the value is not 1 to 255 bytes that can be printed
-/// (0x20 to 0x7e) and one NUL.
-pub fn text_of(value: &[u8]) -> Option<&[u8]>
+/// The bytes before the last one, where that is a NUL and they are a text.
+fn printed_text(value: &[u8]) -> Option<&[u8]>
     ensures some { IfSome result (λ text. IsTextValue value.now text.now) }
     ensures none { IfNone result ((text : List ℕ) → IsTextValue value.now text → ⊥) }
 {
@@ -55,4 +55,14 @@ pub fn text_of(value: &[u8]) -> Option<&[u8]>
     } else {
         None
     }
+}
+
+/// The text in a value without the NUL that ends it. `None` where the value is not 1 to 255 bytes that can be printed
+/// (0x20 to 0x7e) and one NUL.
+pub fn text_of(value: &[u8]) -> Option<&[u8]>
+    ensures exact { option_copied result ≡ text_in value.now }
+    ensures some { IfSome result (λ text. IsTextValue value.now text.now) }
+    ensures none { IfNone result ((text : List ℕ) → IsTextValue value.now text → ⊥) }
+{
+    printed_text(value)
 }

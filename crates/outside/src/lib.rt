@@ -1,4 +1,4 @@
-//! What lies outside: byte lists, files to read and sinks to write, in memory and of the host.
+//! What lies outside: lists, files to read and sinks to write, in memory and of the host.
 //!
 //! The lowest layer. It stands on the kit's libraries alone, and everything above reaches files and
 //! standard output through its two traits, `Files` and `Sink`. Faults are counted, so that each layer
@@ -14,6 +14,7 @@ mod files;
 mod host_files;
 mod host_out;
 mod laws;
+mod listed;
 mod mem_files;
 mod mem_sink;
 mod memory;
@@ -31,6 +32,7 @@ pub use files::Files;
 pub use host_files::HostFiles;
 pub use host_out::HostOut;
 pub use laws::memory_is_sure;
+pub use listed::Listed;
 pub use mem_files::MemFiles;
 pub use mem_sink::MemSink;
 pub use memory::NoMemory;

@@ -1,8 +1,8 @@
 //! What no clause says: that the calls succeed where memory is ample, and that the host's files and output
 //! are reached.
 use super::{
-    Bytes, FILE_LIMIT, Failed, FileFault, Files, HostFiles, HostOut, MemFiles, MemSink, NamedFile,
-    NoMemory, Sink, SureFiles, read_all, write_all,
+    Bytes, FILE_LIMIT, Failed, FileFault, Files, HostFiles, HostOut, Listed, MemFiles, MemSink,
+    NamedFile, NoMemory, Sink, SureFiles, read_all, write_all,
 };
 use std::alloc::Global;
 use std::test::Fail;
@@ -33,6 +33,17 @@ fn bytes_are_copied(rt: HostRuntime) -> Result<(), Fail> {
         Bytes::from_vec(again.into_vec()).as_slice(),
         bytes.as_slice()
     );
+    Ok(())
+}
+
+#[test]
+fn lists_grow_and_give_their_vector_back(rt: HostRuntime) -> Result<(), Fail> {
+    let mut list = Listed::new(rt.alloc());
+    assert!(rt; list.as_slice().is_empty());
+    list.push(3u8)?;
+    list.push(1)?;
+    let again = Listed::from_vec(list.into_vec());
+    assert_eq!(rt; again.as_slice(), [3, 1].as_slice());
     Ok(())
 }
 
