@@ -1,10 +1,9 @@
 -- Steps over lookups that give the same places and faults.
-use Rattle.std.proofs.Common.{◌≡◌, ℕ, ◌%◌, ◌==◌, Bool, cond, not, ◌&&◌, List, [], ◌∷◌, Option, Result, Ok, Err, refl, sym, ap, ◌∙◌}
+use Rattle.std.proofs.Common.{◌≡◌, ℕ, ◌%◌, ◌==◌, Bool, cond, not, ◌&&◌, List, [], ◌∷◌, Result, Ok, Err, refl, ap, ◌∙◌}
 use Rattle.insn.specs.declared.instruction.Insn.{Insn}
 use Rattle.guest_regs.specs.Registers.{Registers, data_space, instruction_space, in_problem_state}
 use Rattle.insn_alu.specs.declared.effect.Effect.{Effect}
 use Rattle.insn_alu.specs.declared.effect.Effect.TheVariants as effect
-use Rattle.insn_alu.specs.declared.effect.Access.{Access}
 use Rattle.insn_alu.specs.Exec.{exec_of}
 use Rattle.ground.specs.Extents.{number_at}
 use Rattle.core_step.specs.declared.access.Part.{Part}
@@ -12,8 +11,8 @@ use Rattle.core_step.specs.declared.access.Place.{Place}
 use Rattle.core_step.specs.declared.access.Fault.{Fault}
 use Rattle.core_step.specs.Pages.{Lookup}
 use Rattle.core_step.specs.Access.{parts_of, fetching, place_or_fault, before, places_or_fault}
-use Rattle.core_step.specs.Step.{Stepped, Align, is_aligned, access_permission, decoded, unchanged, done_unless, accessed, performed, instruction_done, fetched, stepped}
-use Rattle.core_step.specs.Touches.{Touch, touch_at, page_for, touching, parts_touched, access_touched, effect_touched, instruction_touched, after_fetch, fetch_touch, fetch_place, touches, Alike, AlikeStepAlike}
+use Rattle.core_step.specs.Step.{Align, is_aligned, access_permission, decoded, unchanged, done_unless, accessed, performed, instruction_done, fetched, stepped}
+use Rattle.core_step.specs.Touches.{touch_at, page_for, touching, parts_touched, access_touched, effect_touched, after_fetch, fetch_touch, fetch_place, touches, Alike, AlikeStepAlike}
 
 parts_alike : (some whole : Lookup) (space : Bool) (pid permission : ℕ) (parts : List Part) → Alike some whole → places_or_fault (some space pid) permission parts ≡ places_or_fault (whole space pid) permission parts
 parts_alike some whole space pid permission [] h = refl

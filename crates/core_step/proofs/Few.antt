@@ -1,5 +1,5 @@
 -- How many touches there are, and that each has a page.
-use Rattle.std.proofs.Common.{◌≡◌, ℕ, zero, suc, ◌+◌, ◌<◌, ◌≤◌, ◌%◌, ◌==◌, Bool, true, false, cond, not, ◌&&◌, nat_le, List, [], ◌∷◌, length, Option, Some, None, Result, Ok, Err, IsSome, is_some, refl, sym, ap, subst, ◌∙◌, arith}
+use Rattle.std.proofs.Common.{◌≡◌, ℕ, ◌+◌, ◌≤◌, ◌%◌, ◌==◌, Bool, true, false, cond, not, ◌&&◌, nat_le, List, [], ◌∷◌, length, Option, Some, None, Result, Ok, Err, IsSome, is_some, refl, ap, arith}
 use Rattle.guest_regs.specs.Registers.{Registers, data_space, in_problem_state}
 use Rattle.insn_alu.specs.declared.effect.Effect.{Effect}
 use Rattle.insn_alu.specs.declared.effect.Effect.TheVariants as effect
@@ -10,11 +10,11 @@ use Rattle.core_step.specs.declared.look.Page.{Page}
 use Rattle.core_step.specs.declared.access.Part.{Part}
 use Rattle.core_step.specs.declared.access.Place.{Place}
 use Rattle.core_step.specs.declared.access.Fault.{Fault}
-use Rattle.core_step.specs.declared.access.Fault.TheVariants.{Missing, Denied, Reversed}
+use Rattle.core_step.specs.declared.access.Fault.TheVariants.{Denied, Reversed}
 use Rattle.core_step.specs.Pages.{Lookup}
 use Rattle.core_step.specs.Access.{parts_of, room_from, fetching, allows, place_in, place_or_fault}
 use Rattle.core_step.specs.Step.{is_aligned, access_permission, decoded}
-use Rattle.core_step.specs.Touches.{Touch, touch_at, page_for, touching, parts_touched, access_touched, effect_touched, after_fetch, fetch_touch, fetch_place, touches, AreFound, TouchesAreFew, TouchesAreFound}
+use Rattle.core_step.specs.Touches.{Touch, touch_at, page_for, touching, parts_touched, access_touched, effect_touched, after_fetch, fetch_touch, touches, AreFound, TouchesAreFew, TouchesAreFound}
 
 -- touches of which there are so few, and that all have pages
 record Good (lookup : Lookup) (most : ℕ) (all : List Touch) : Type 0 where

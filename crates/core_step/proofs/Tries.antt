@@ -1,8 +1,8 @@
 -- A try over some of the pages does the step, or misses the first touch whose page isn't there.
-use Rattle.std.proofs.Common.{◌≡◌, ℕ, ◌%◌, ◌==◌, Bool, true, false, cond, not, ◌&&◌, List, [], ◌∷◌, Option, Some, None, Result, Ok, Err, IfSome, IsSome, MatchOption, is_none, is_some, find, refl, sym, ap, subst, ◌∙◌}
+use Rattle.std.proofs.Common.{◌≡◌, ℕ, ◌%◌, ◌==◌, Bool, true, false, cond, not, ◌&&◌, List, [], ◌∷◌, Option, Some, None, Result, Ok, Err, IfSome, IsSome, MatchOption, is_none, is_some, refl, sym, ap, subst}
 use Rattle.insn.specs.declared.instruction.Insn.{Insn}
 use Rattle.guest_regs.specs.State.{privileged}
-use Rattle.guest_regs.specs.Registers.{Registers, data_space, instruction_space, in_problem_state}
+use Rattle.guest_regs.specs.Registers.{Registers, data_space, in_problem_state}
 use Rattle.insn_alu.specs.declared.effect.Effect.{Effect}
 use Rattle.insn_alu.specs.declared.effect.Effect.TheVariants as effect
 use Rattle.insn_alu.specs.declared.effect.Form.{Form}
@@ -17,7 +17,7 @@ use Rattle.core_step.specs.declared.access.Fault.{Fault}
 use Rattle.core_step.specs.declared.access.Fault.TheVariants.{Missing, Denied, Reversed}
 use Rattle.core_step.specs.Pages.{Lookup}
 use Rattle.core_step.specs.Access.{parts_of, fetching, allows, place_in, place_or_fault, before, places_or_fault}
-use Rattle.core_step.specs.Step.{Answer, Stepped, Retired, Waiting, MissData, MissInsn, is_aligned, data_fault, access_permission, decoded, unchanged, load_done, store_done, conditional_done, access_done, done_unless, accessed, performed, instruction_done, fetched, fetch_fault, stepped, holds, first_granule, Align, Program, Priv}
+use Rattle.core_step.specs.Step.{Answer, Stepped, is_aligned, access_permission, decoded, unchanged, load_done, store_done, conditional_done, access_done, done_unless, accessed, performed, instruction_done, fetched, stepped, holds, first_granule, Align, Program, Priv}
 use Rattle.core_step.specs.Touches.{Touch, touch_at, page_for, touching, parts_touched, access_touched, effect_touched, instruction_touched, after_fetch, fetch_touch, fetch_place, touches, Agrees, IsPart, unmet, missing, Settles, TriesSettle}
 
 -- what is to be shown, as a record

@@ -1,5 +1,5 @@
 -- The pages that an instruction touches, and an instruction over some of the pages (Power ISA 2.06, Book III-E, chapter 6).
-use Rattle.std.specs.Prelude.{◌≡◌, ⊤, ℕ, ◌%◌, ◌==◌, ◌≤◌, length, Bool, not, ◌&&◌, List, [], ◌∷◌, Option, Some, None, Result, Ok, Err, is_none, find, IfSome, IsSome, MatchOption, if◌then◌else◌}
+use Rattle.std.specs.Prelude.{◌≡◌, ℕ, ◌%◌, ◌==◌, ◌≤◌, length, Bool, not, ◌&&◌, List, [], ◌∷◌, Option, Some, None, Result, Ok, Err, is_none, find, IfSome, IsSome, MatchOption, if◌then◌else◌}
 use Rattle.insn.specs.declared.instruction.Insn.{Insn}
 use Rattle.guest_regs.specs.Registers.{Registers, in_problem_state, instruction_space, data_space}
 use Rattle.insn_alu.specs.declared.effect.Effect.{Effect}
@@ -14,7 +14,7 @@ use Rattle.core_step.specs.declared.access.Fault.{Fault}
 use Rattle.core_step.specs.declared.access.Fault.TheVariants.{Missing, Denied, Reversed}
 use Rattle.core_step.specs.Pages.{Lookup}
 use Rattle.core_step.specs.Access.{parts_of, fetching, place_or_fault}
-use Rattle.core_step.specs.Step.{Answer, Stepped, MissData, MissInsn, is_aligned, access_permission, decoded, stepped}
+use Rattle.core_step.specs.Step.{Answer, MissData, MissInsn, is_aligned, access_permission, decoded, stepped}
 
 -- a page is looked at: the page of an effective address, in an address space, for a process
 pub record Touch : Type 0 where

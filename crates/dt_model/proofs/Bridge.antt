@@ -6,7 +6,7 @@ use Rattle.std.specs.Str.{bytes_eq}
 use Rattle.std.proofs.lemmas.Bool.{cases_lt, cases_Bool, lt-ltb, le-ltb, ne_eqb, and_parts, and_from, leb-true, le-leb, both_ways}
 use Rattle.dt_model.specs.declared.tree.Node.{Node}
 use Rattle.dt_model.specs.declared.tree.Node.TheOpen.{Node-F}
-use Rattle.dt_model.specs.declared.tree.Node.TheViews.{out-Node, roll-Node, roll-out-Node, out-roll-Node}
+use Rattle.dt_model.specs.declared.tree.Node.TheViews.{out-Node, roll-Node, out-roll-Node}
 use Rattle.dt_model.specs.declared.tree.Node.TheFolds.{map-Node, ind-Node}
 use Rattle.dt_model.specs.declared.tree.Property.{Property}
 use Rattle.dt_model.specs.declared.fitting.Counts.{Counts}

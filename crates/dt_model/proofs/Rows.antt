@@ -5,12 +5,12 @@ use Rattle.std.proofs.lemmas.List.{append-nil}
 use Rattle.std.proofs.lemmas.List.Concat.{flat_map-append}
 use Rattle.dt_model.specs.declared.tree.Node.{Node}
 use Rattle.dt_model.specs.declared.tree.Node.TheOpen.{Node-F}
-use Rattle.dt_model.specs.declared.tree.Node.TheViews.{out-Node, roll-Node, roll-out-Node, out-roll-Node}
+use Rattle.dt_model.specs.declared.tree.Node.TheViews.{out-Node, roll-Node, out-roll-Node}
 use Rattle.dt_model.specs.declared.tree.Node.TheFolds.{ind-Node, map-Node}
 use Rattle.dt_model.specs.declared.tree.Property.{Property}
 use Rattle.dt_model.specs.declared.tree.Tree.{Tree}
-use Rattle.dt_model.specs.Token.{Token, BeginNode, EndNode, Finish}
-use Rattle.dt_model.specs.Node.{property_token, node_tokens, tokens_of, name_of, Place, places_at, nodes_below, Row, NodeRow, PropertyRow, rows_at, rows_of, path_of, rows_inside, rows_in}
+use Rattle.dt_model.specs.Token.{Token, EndNode, Finish}
+use Rattle.dt_model.specs.Node.{property_token, node_tokens, tokens_of, Place, places_at, nodes_below, Row, NodeRow, PropertyRow, rows_at, rows_of, path_of, rows_inside, rows_in}
 use Rattle.dt_model.proofs.Rules.{node_tokens-out, inside, node_tokens-roll}
 use Rattle.dt_model.proofs.Below.{below_all, nodes_below-roll, nodes_below-out}
 

@@ -1,5 +1,5 @@
 -- One step of the machine.
-use Rattle.std.specs.Prelude.{ℕ, ◌+◌, ◌^◌, Bool, true, false, not, ◌&&◌, ◌||◌, nat_lt, List, [], ◌∷◌, take, if◌then◌else◌}
+use Rattle.std.specs.Prelude.{ℕ, ◌+◌, Bool, true, false, not, ◌&&◌, ◌||◌, nat_lt, List, [], ◌∷◌, take, if◌then◌else◌}
 use Rattle.insn.specs.declared.instruction.Insn.{Insn}
 use Rattle.guest_regs.specs.State.{store_syndrome, order_syndrome}
 use Rattle.guest_regs.specs.Registers.{Registers, gpr_of, with_gpr, instruction_space, data_space}

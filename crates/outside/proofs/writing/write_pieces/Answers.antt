@@ -1,4 +1,4 @@
-use Rattle.std.proofs.Common.{ℕ, List, Option, [], sym, subst, arith}
+use Rattle.std.proofs.Common.{ℕ, List, [], sym, subst, arith}
 use Rattle.std.specs.Borrow.{Bor}
 use Rattle.std.specs.Io.KnownBytes.{Appends}
 use Rattle.std.proofs.KnownBytes.{Appends-nil, Appends-trans}

@@ -1,7 +1,6 @@
 use Rattle.std.proofs.Common.{◌≡◌, ◌<◌, ◌-◌, true, false, sym, ap, ◌∙◌, arith}
 use Rattle.std.proofs.lemmas.Grind.{common_steps}
 use Rattle.topaz_run.specs.Report.{Run, turn, run, fresh}
-use Rattle.topaz_run.specs.Plan.{Refused, Done}
 use Rattle.topaz_run.specs.Outcome.{reported}
 use Rattle.topaz_run.proofs.Turns.{so_far_built, so_far_unbuilt, so_far_whole, so_far_stopped}
 use Rattle.topaz_run.proofs.run.run.Goals as goal
