@@ -1,0 +1,11 @@
+pub mod Role
+pub mod Form
+pub mod Seat
+pub mod Rule
+pub mod Meaning
+pub mod Plain
+pub mod Cells
+pub mod Device
+pub mod Cpus
+pub mod Memory
+pub mod Hardware
