@@ -1,8 +1,8 @@
 -- What a tree that fits and breaks no rule says is plain.
-use Rattle.std.proofs.Common.{◌≡◌, ℕ, ◌+◌, ◌<◌, ◌*◌, ◌/◌, ◌%◌, Bool, true, false, ◌&&◌, ◌||◌, not, cond, ltb, eqb, List, [], ◌∷◌, ◌++◌, map, length, drop, Option, Some, None, refl, sym, ap, subst, ◌∙◌, arith}
+use Rattle.std.proofs.Common.{◌≡◌, ℕ, ◌*◌, ◌/◌, Bool, true, false, ◌||◌, not, cond, ltb, List, [], ◌∷◌, ◌++◌, map, length, drop, Option, Some, None, refl, sym, ap, subst, ◌∙◌, arith}
 use Rattle.std.specs.Prelude.{find, codes, is_some, is_none, unwrap_or, option_and_then}
 use Rattle.std.specs.Option.{option_map, option_map_or, option_or}
-use Rattle.std.specs.List.{list_all, list_any, range_with_len}
+use Rattle.std.specs.List.{list_all, list_any}
 use Rattle.std.specs.Str.{bytes_eq}
 use Rattle.std.proofs.lemmas.Bool.{and_parts, and_from}
 use Rattle.std.proofs.lemmas.Slice.Eq.{bytes_eq-Decides}
@@ -15,13 +15,13 @@ use Rattle.dt_model.specs.declared.tree.Tree.{Tree}
 use Rattle.dt_model.specs.Node.{name_of, value_of, properties_of, child_path}
 use Rattle.dt_model.specs.Value.{is_text, text_in}
 use Rattle.dt_model.specs.Kept.{are_apart, has_kept, KeepsNames}
-use Rattle.hv_config.specs.declared.form.Form.TheVariants.{Number, Cores, Text, Nothing, Mark, Sort}
+use Rattle.hv_config.specs.declared.form.Form.TheVariants.{Cores, Text}
 use Rattle.hv_config.specs.declared.role.Role.{Role}
-use Rattle.hv_config.specs.declared.role.Role.TheVariants.{Root, Areas, Area, Channels, Channel, Doorbells, Partitions, Partition, GuestAreas, GuestArea, Handles, Handle}
+use Rattle.hv_config.specs.declared.role.Role.TheVariants.{Root, Partitions, Partition, GuestAreas, GuestArea, Handles, Handle}
 use Rattle.hv_config.specs.Role.{child_role, is_stranger}
 use Rattle.hv_config.specs.Form.{form_of, has_form, cores_in}
 use Rattle.hv_config.specs.Seat.{Seat, seats_of, seats_below, child_seat}
-use Rattle.hv_config.specs.Rule.{first_broken, first_broken_among, first_breach, breach, is_unknown, has_odd_property, is_incomplete, has_bad_value, is_bad_value, lacks, Breach}
+use Rattle.hv_config.specs.Rule.{first_broken, first_broken_among, first_breach, breach, is_incomplete, has_bad_value, is_bad_value}
 use Rattle.hv_config.specs.Meaning.{is_named, children_of, list_in, config_in, config_of, area_def, channel_def, bell_def, part_def, guest_area_def, handle_def, text_at, text_or_none, cores_at}
 use Rattle.hv_config.specs.Plain.{area_names, channel_names, bell_names, part_names, guest_names, handle_names, is_plain_channel, is_plain_guest, is_plain_handle, is_plain_part, IsPlain}
 use Rattle.hv_config.proofs.Seats.{all_below, children_below}

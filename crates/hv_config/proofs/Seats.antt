@@ -1,13 +1,12 @@
 -- What stands below a node is, child by child, its seat and what is below it.
-use Rattle.std.proofs.Common.{◌≡◌, ℕ, ◌+◌, ◌<◌, Bool, true, false, cond, List, [], ◌∷◌, ◌++◌, map, length, get_or, drop, refl, sym, ap, ◌∙◌, append_assoc, arith}
-use Rattle.std.proofs.lemmas.List.{drop_more, append-nil}
+use Rattle.std.proofs.Common.{◌≡◌, ℕ, ◌+◌, ◌<◌, Bool, true, false, cond, List, [], ◌∷◌, ◌++◌, map, length, get_or, drop, refl, sym, ap, ◌∙◌}
+use Rattle.std.proofs.lemmas.List.{drop_more}
 use Rattle.std.specs.Prelude.{if◌then◌else◌}
 use Rattle.std.specs.List.{flat_map}
 use Rattle.dt_model.specs.declared.tree.Node.{Node}
 use Rattle.dt_model.specs.declared.tree.Node.TheOpen.{Node-F}
 use Rattle.dt_model.specs.declared.tree.Node.TheViews.{out-Node, roll-Node, roll-out-Node}
 use Rattle.dt_model.specs.declared.tree.Node.TheFolds.{para-roll-Node}
-use Rattle.dt_model.specs.Node.{name_of, child_path}
 use Rattle.hv_config.specs.declared.role.Role.{Role}
 use Rattle.hv_config.specs.Role.{is_stranger}
 use Rattle.hv_config.specs.Seat.{Seat, Walk, below_step, seats_below, seats_at}

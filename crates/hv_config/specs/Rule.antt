@@ -1,5 +1,5 @@
 -- The rules C1 to C4, each a test of a node in its place, and the first that is broken.
-use Rattle.std.specs.Prelude.{◌≡◌, ℕ, Bool, false, ◌||◌, not, is_none, if◌then◌else◌, List, codes, find, Option, Some, None}
+use Rattle.std.specs.Prelude.{◌≡◌, ℕ, Bool, false, ◌||◌, not, is_none, List, codes, find, Option, Some}
 use Rattle.std.specs.Option.{option_map, option_map_or, option_or}
 use Rattle.std.specs.List.{list_any}
 use Rattle.std.specs.Str.{bytes_eq}
