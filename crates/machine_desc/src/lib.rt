@@ -1,0 +1,22 @@
+//! The description of a partition, and what joins partitions.
+//!
+//! Plain data that the machine and its definition both read. It stands on `outside` alone. `specs/Limits.antt` has the
+//! counts and sizes that descriptions keep, `specs/Ranges.antt` says when ranges are apart, `specs/Private.antt` what is
+//! private, and `specs/Sound.antt` which descriptions are sound; the contracts are these definitions.
+#![tactic(auto)]
+
+mod bounds;
+mod desc;
+mod numbering;
+mod private;
+mod ranges;
+mod soundness;
+mod spin;
+mod wiring;
+
+pub use desc::{Desc, Piece, Port, Region, Span};
+pub use soundness::sound;
+pub use wiring::{Bell, End, Link, PortRef, Wiring};
+
+#[cfg(test)]
+mod tests;

@@ -1,0 +1,4 @@
+//! What the definitions are meant to say: each condition at its edge, and the value beside it.
+
+mod drafts;
+mod soundness;
