@@ -2,3 +2,4 @@ pub mod Limits
 pub mod Ranges
 pub mod Private
 pub mod Sound
+pub mod Joined

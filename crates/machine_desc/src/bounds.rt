@@ -9,6 +9,12 @@ pub const MOST_HANDLES: usize = 64;
 /// How many cores a partition may have.
 pub const MOST_CORES: usize = 8;
 
+/// How many partitions there may be.
+pub const MOST_PARTITIONS: usize = 16;
+
+/// How many bytes all extents together may have.
+pub const MOST_BYTES: u64 = 1_073_741_824;
+
 /// How many bytes a page has.
 pub const PAGE_SIZE: u64 = 4096;
 

@@ -1,21 +1,8 @@
 //! Sound descriptions, and those beside them that aren't.
 
-use crate::tests::drafts::{Draft, Sort, desc_of, pages, region};
+use crate::tests::drafts::{Draft, Sort, desc_of, draft_of, pages, region};
 use crate::*;
 use std::test::Fail;
-
-/// A description that lacks nothing.
-fn draft(regions: &[Region]) -> Draft<'_> {
-    Draft {
-        regions,
-        cores: 1,
-        ports: &[],
-        tree_at: 0x8000,
-        tree_size: 0x1000,
-        entry: 0,
-        pieces: &[],
-    }
-}
 
 #[test]
 fn regions(rt: HostRuntime) -> Result<(), Fail> {
@@ -60,7 +47,7 @@ fn regions(rt: HostRuntime) -> Result<(), Fail> {
     ];
     for (what, want, one) in &cases {
         let both = [*one, region(0x2_0000, 0x1000, 7, false)];
-        let desc = desc_of(rt.alloc(), &draft(&both))?;
+        let desc = desc_of(rt.alloc(), &draft_of(&both))?;
         assert_eq!(rt; sound(&desc), *want, "{what}");
     }
     Ok(())
@@ -81,9 +68,9 @@ fn counts(rt: HostRuntime) -> Result<(), Fail> {
         let regions = pages(alloc, count)?;
         let sorts = vec![in alloc; Sort::Send; ports]?;
         let one = Draft {
-            cores,
+            cores: (0, cores),
             ports: sorts.as_slice(),
-            ..draft(regions.as_slice())
+            ..draft_of(regions.as_slice())
         };
         let desc = desc_of(alloc, &one)?;
         assert_eq!(rt; sound(&desc), want, "{count} {cores} {ports}");
@@ -114,7 +101,7 @@ fn interrupts(rt: HostRuntime) -> Result<(), Fail> {
     for (what, want, ports) in &cases {
         let one = Draft {
             ports: *ports,
-            ..draft(&regions)
+            ..draft_of(&regions)
         };
         let desc = desc_of(rt.alloc(), &one)?;
         assert_eq!(rt; sound(&desc), *want, "{what}");
@@ -150,11 +137,11 @@ fn starts(rt: HostRuntime) -> Result<(), Fail> {
     ];
     for (tree_at, tree_size, entry, cores, want) in cases {
         let one = Draft {
-            cores,
+            cores: (0, cores),
             tree_at,
             tree_size,
             entry,
-            ..draft(&regions)
+            ..draft_of(&regions)
         };
         let desc = desc_of(rt.alloc(), &one)?;
         assert_eq!(rt;
@@ -193,7 +180,7 @@ fn pieces(rt: HostRuntime) -> Result<(), Fail> {
     ] {
         let one = Draft {
             pieces: &[(0, 1), (at, len)],
-            ..draft(&regions)
+            ..draft_of(&regions)
         };
         let desc = desc_of(rt.alloc(), &one)?;
         assert_eq!(rt; sound(&desc), want, "{at:#x} {len:#x}");
