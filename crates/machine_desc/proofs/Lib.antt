@@ -1,0 +1,4 @@
+pub mod Counting
+pub mod Walking
+pub mod Spans
+pub mod Ends

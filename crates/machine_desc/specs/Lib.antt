@@ -1,0 +1,5 @@
+pub mod Limits
+pub mod Ranges
+pub mod Private
+pub mod Sound
+pub mod Joined
