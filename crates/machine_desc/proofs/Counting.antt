@@ -1,5 +1,5 @@
 -- Numbers that count up, piece after piece.
-use Rattle.std.proofs.Common.{◌≡◌, ℕ, ◌+◌, Bool, ◌&&◌, List, [], ◌∷◌, ◌++◌, length, refl, ap, arith}
+use Rattle.std.proofs.Common.{◌≡◌, ℕ, ◌+◌, ◌&&◌, List, [], ◌∷◌, ◌++◌, length, arith}
 use Rattle.machine_desc.specs.Sound.{counts_up}
 
 pub counts_up_along : (next : ℕ) (front rest : List ℕ) → counts_up next (front ++ rest) ≡ (counts_up next front && counts_up (next + length front) rest)

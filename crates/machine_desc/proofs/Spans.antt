@@ -1,12 +1,10 @@
 -- Extents and private ranges, place after place.
-use Rattle.std.proofs.Common.{◌≡◌, ℕ, zero, suc, ◌+◌, ◌<◌, ◌≤◌, Bool, true, false, cond, not, ◌&&◌, ◌||◌, ◌==◌, Option, Some, None, List, [], ◌∷◌, ◌++◌, length, get_or, take, drop, map, filter, refl, sym, ap, subst, ◌∙◌, add-one, arith}
+use Rattle.std.proofs.Common.{◌≡◌, ℕ, zero, suc, ◌+◌, ◌<◌, ◌≤◌, true, false, cond, ◌&&◌, ◌==◌, Some, None, List, [], ◌∷◌, ◌++◌, length, get_or, take, drop, map, filter, refl, ap, subst, ◌∙◌, add-one, arith}
 use Rattle.std.proofs.Math.Seq.{drop-cons}
 use Rattle.std.proofs.lemmas.List.{drop_all}
-use Rattle.std.specs.List.{list_any}
 use Rattle.machine_desc.specs.declared.desc.Region.{Region}
 use Rattle.machine_desc.specs.declared.desc.Span.{Span}
-use Rattle.machine_desc.specs.Ranges.{none_meets}
-use Rattle.machine_desc.specs.Joined.{spans_meet, extent_spans, span_of, private_spans_of, are_private_spans, same_spans, has_span, behind_span}
+use Rattle.machine_desc.specs.Joined.{extent_spans, span_of, private_spans_of, are_private_spans, same_spans, has_span, behind_span}
 
 -- ---- extents
 

@@ -17,10 +17,10 @@ pub struct Region {
     pub private: bool,
 }
 
-/// A range of logical addresses.
+/// A range of addresses: logical ones, where a handle names it.
 #[derive(Clone, Copy, Debug, PartialEq, Eq)]
 pub struct Span {
-    /// The logical address of its first byte.
+    /// The address of its first byte.
     pub at: u64,
     /// In bytes.
     pub size: u64,
