@@ -24,6 +24,8 @@ mod wiring;
 
 pub use desc::{Desc, Piece, Port, Region, Span};
 pub use joint::joined;
+pub use private::is_private_range;
+pub use ranges::ranges_meet;
 pub use soundness::sound;
 pub use wiring::{Bell, End, Link, PortRef, Wiring};
 

@@ -32,9 +32,10 @@ fn private_end(regions: &[Region], address: u128) -> Option<u128>
     private_region(regions, address).map(|region| end_of(region.logical, u64::from(region.size)))
 }
 
-/// Whether each of so many addresses from this one on is in a private region.
+/// Whether each of so many addresses from this one on is in a private region; the first may lie behind all addresses
+/// that 64 bits can say.
 #[tactic(auto, using(crate::proofs::Walking::walking))]
-pub fn is_private_range(regions: &[Region], at: u128, size: u64) -> bool
+pub fn is_private_from(regions: &[Region], at: u128, size: u64) -> bool
     requires { at < 2 ^ 100 }
     ensures { result ≡ spec.is_private_range regions.now at size }
 {
@@ -47,4 +48,13 @@ pub fn is_private_range(regions: &[Region], at: u128, size: u64) -> bool
         }
     }
     true
+}
+
+/// Whether each of `size` bytes from the logical address `at` on is in a private region. The range may go over several
+/// regions that lie side by side, in whatever order they stand. A range without bytes is private, wherever it is. The
+/// sums never wrap: bytes behind the last address of 64 bits are in no region that ends before.
+pub fn is_private_range(regions: &[Region], at: u64, size: u64) -> bool
+    ensures { result ≡ spec.is_private_range regions.now at size }
+{
+    is_private_from(regions, u128::from(at), size)
 }

@@ -136,7 +136,7 @@ fn is_start_mapped(desc: &Desc) -> bool
 fn are_private(regions: &[Region], pieces: &[Piece]) -> bool
     ensures { result ≡ list_all (spec.is_private_piece regions.now) pieces.now }
 {
-    pieces.iter().all(|piece| is_private_range(regions, u128::from(piece.at), u64::from(piece.len)))
+    pieces.iter().all(|piece| is_private_range(regions, piece.at, u64::from(piece.len)))
 }
 
 /// Whether the description can be loaded and run: its regions are whole pages apart from one another, its counts

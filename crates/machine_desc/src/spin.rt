@@ -5,7 +5,7 @@ ghost use Rattle.machine_desc.specs.Sound as spec;
 
 use crate::bounds::{SPIN_ROOM, SPIN_SIZE, SPIN_STEP};
 use crate::desc::Desc;
-use crate::private::is_private_range;
+use crate::private::is_private_from;
 use crate::ranges::end_of;
 
 /// Whether the place of the core's spin entry is private.
@@ -14,7 +14,7 @@ fn has_private_spin_entry(desc: &Desc, core: usize) -> bool
     ensures { result ≡ spec.has_private_spin_entry desc.now core }
 {
     let behind = end_of(desc.tree_at, desc.tree_size) + SPIN_STEP * core as u128;
-    SPIN_ROOM <= behind && is_private_range(desc.regions.as_slice(), behind - SPIN_ROOM, SPIN_SIZE)
+    SPIN_ROOM <= behind && is_private_from(desc.regions.as_slice(), behind - SPIN_ROOM, SPIN_SIZE)
 }
 
 /// Whether the places of the spin entries of all cores but the first are private.

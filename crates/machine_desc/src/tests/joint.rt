@@ -403,12 +403,31 @@ fn managers(rt: HostRuntime) -> Result<(), Fail> {
     let itself = [Sort::Manage(0, false)];
     let two = [Sort::Manage(1, true), Sort::Manage(1, true)];
     let beyond = [Sort::Manage(2, true)];
-    let cases: [(&str, bool, &[Sort], u64, u64, &[At]); 11] = [
-        ("as told", true, &held, 0, 0x2000, &[(0, 0), (0, 1)]),
+    let cases: [(&str, bool, &[Sort], bool, u64, u64, &[At]); 13] = [
+        ("as told", true, &held, true, 0, 0x2000, &[(0, 0), (0, 1)]),
+        (
+            "told and running",
+            true,
+            &running,
+            false,
+            0,
+            0x2000,
+            &[(0, 0), (0, 1)],
+        ),
+        (
+            "told as held",
+            false,
+            &held,
+            false,
+            0,
+            0x2000,
+            &[(0, 0), (0, 1)],
+        ),
         (
             "told as running",
             false,
             &running,
+            true,
             0,
             0x2000,
             &[(0, 0), (0, 1)],
@@ -417,16 +436,34 @@ fn managers(rt: HostRuntime) -> Result<(), Fail> {
             "the shared region",
             false,
             &held,
+            true,
             0x7000,
             0x1000,
             &[(0, 0), (0, 1)],
         ),
-        ("another size", false, &held, 0, 0x1000, &[(0, 0), (0, 1)]),
-        ("itself", false, &itself, 0, 0x1_0000, &[(0, 1), (0, 0)]),
+        (
+            "another size",
+            false,
+            &held,
+            true,
+            0,
+            0x1000,
+            &[(0, 0), (0, 1)],
+        ),
+        (
+            "itself",
+            false,
+            &itself,
+            true,
+            0,
+            0x1_0000,
+            &[(0, 1), (0, 0)],
+        ),
         (
             "two managers of one",
             false,
             &two,
+            true,
             0,
             0x2000,
             &[(0, 0), (0, 1)],
@@ -435,6 +472,7 @@ fn managers(rt: HostRuntime) -> Result<(), Fail> {
             "no such partition",
             false,
             &beyond,
+            true,
             0,
             0x2000,
             &[(0, 0), (0, 1)],
@@ -443,6 +481,7 @@ fn managers(rt: HostRuntime) -> Result<(), Fail> {
             "no manager named",
             false,
             &held,
+            true,
             0,
             0x2000,
             &[(0, 0), (0, 0)],
@@ -451,21 +490,23 @@ fn managers(rt: HostRuntime) -> Result<(), Fail> {
             "one too many named",
             false,
             &held,
+            true,
             0,
             0x2000,
             &[(0, 1), (0, 1)],
         ),
-        ("an entry too few", false, &held, 0, 0x2000, &[(0, 0)]),
+        ("an entry too few", false, &held, true, 0, 0x2000, &[(0, 0)]),
         (
             "an entry too many",
             false,
             &held,
+            true,
             0,
             0x2000,
             &[(0, 0), (0, 1), (0, 0)],
         ),
     ];
-    for (what, want, ports, at, size, managers) in &cases {
+    for (what, want, ports, own, at, size, managers) in &cases {
         let spans = [Span {
             at: *at,
             size: *size,
@@ -477,7 +518,7 @@ fn managers(rt: HostRuntime) -> Result<(), Fail> {
         };
         let second = Draft {
             cores: (1, 2),
-            held: true,
+            held: *own,
             ..draft_of(&other)
         };
         let joint = Joint {
