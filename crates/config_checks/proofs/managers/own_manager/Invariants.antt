@@ -1,0 +1,8 @@
+use Rattle.std.proofs.Common.{◌≡◌, [], take, drop}
+use Rattle.config_checks.specs.First.{first_from}
+use Rattle.config_checks.specs.Managers.{own_in}
+use Rattle.config_checks.proofs.managers.own_manager.Given as goal
+
+abbrev pub invariant-loop-part : goal.invariant-loop-part
+invariant-loop-part l =
+    first_from own_in (take l.part-index l.parts) (drop l.part-index l.parts) ≡ first_from own_in [] l.parts

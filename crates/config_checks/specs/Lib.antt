@@ -1,0 +1,14 @@
+pub mod Limits
+pub mod Spot
+pub mod Path
+pub mod First
+pub mod Found
+pub mod Names
+pub mod Counts
+pub mod Areas
+pub mod Guests
+pub mod Cores
+pub mod Window
+pub mod Channels
+pub mod Managers
+pub mod Rules
