@@ -1,0 +1,6 @@
+use Rattle.std.proofs.Common.{◌≡◌, take, map}
+use Rattle.hv_config.specs.declared.config.AreaDef.{AreaDef}
+use Rattle.config_descs.proofs.wired.sizes_of.Given as goal
+
+abbrev pub invariant-loop-area : goal.invariant-loop-area
+invariant-loop-area l = l.sizes ≡ map (λ (area : AreaDef). area.size) (take l.area-index l.areas)

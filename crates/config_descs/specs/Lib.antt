@@ -1,0 +1,4 @@
+pub mod Limits
+pub mod Numbered
+pub mod Desc
+pub mod Wired

@@ -1,0 +1,15 @@
+pub mod Numbers
+pub mod Lists
+pub mod Kept
+pub mod Names
+pub mod Sound
+pub mod Memory
+pub mod Refs
+pub mod Unique
+pub mod Handles
+pub mod Links
+pub mod Managers
+pub mod Ports
+pub mod Stripped
+pub mod Joined
+pub mod Limits

@@ -1,0 +1,13 @@
+//! Configurations that are accepted on hardware.
+//!
+//! It stands on `config_checks` for the rules C5 to C22 and on `config_descs` for descriptions and wiring.
+//! `specs/Accepted.antt` says which configurations are accepted, `specs/Completed.antt` what becomes of their
+//! descriptions, and `specs/Laws.antt` that these are joined.
+#![tactic(auto)]
+
+mod accepting;
+mod laws;
+#[cfg(test)]
+mod tests;
+
+pub use accepting::{Accepted, accept};
