@@ -1,0 +1,4 @@
+pub mod Made
+pub mod Said
+pub mod Read
+pub mod Laws
