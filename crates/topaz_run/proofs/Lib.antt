@@ -4,3 +4,4 @@ pub mod Lines
 pub mod Spellings
 pub mod Turns
 pub mod Blobs
+pub mod Checks

@@ -7,13 +7,29 @@ use Rattle.topaz_run.specs.declared.status.Stop.{Stop}
 use Rattle.topaz_run.specs.declared.status.Stop.TheVariants as stop
 use Rattle.outside.specs.Limit.{file_limit}
 use Rattle.outside.specs.Content.{Content, file_of}
-use Rattle.topaz_run.specs.Plan.{Outcome, Misused, Lacking, Refused, Done}
+use Rattle.hv_config.specs.declared.fault.Fault.{Fault}
+use Rattle.hv_config.specs.declared.fault.Fault.TheVariants as fault
+use Rattle.hv_read.specs.declared.misread.Misread.{Misread}
+use Rattle.hv_read.specs.declared.misread.Misread.TheVariants as misread
+use Rattle.topaz_run.specs.Plan.{Outcome, Misused, Lacking, Refused, Done, refusal}
+use Rattle.topaz_run.specs.Outcome.{blob_rule, rule_text}
 
 -- an early end of a command is the outcome's refusal, but for a fault and want of memory
 abbrev pub Stops : Stop → Outcome → Type 0
 Stops (stop.Refused text) outcome = outcome ≡ Refused text
 Stops stop.ReadFault outcome = ⊤
 Stops stop.NoMemory outcome = ⊤
+
+-- the early end refuses by the rule that the fault tells, at its node
+abbrev pub RefusesFault : Fault → Stop → Type 0
+RefusesFault (fault.Broken rule at) end = Stops end (refusal (rule_text rule) at)
+RefusesFault fault.NoMemory end = end ≡ stop.NoMemory
+
+-- the early end refuses by the rule that the bytes of the file break
+abbrev pub RefusesMisread : List ℕ → Misread → Stop → Type 0
+RefusesMisread file (misread.Blob rule) end = Stops end (refusal (blob_rule rule) file)
+RefusesMisread file (misread.Broken rule at) end = Stops end (refusal (rule_text rule) at)
+RefusesMisread file misread.NoMemory end = end ≡ stop.NoMemory
 
 -- what a command answers is the outcome: the bytes of what was done, or an early end
 abbrev pub Meets : Result (List ℕ) Stop → Outcome → Type 0

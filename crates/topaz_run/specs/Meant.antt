@@ -1,8 +1,9 @@
 -- The program's commands as the definitions see them.
 use Rattle.topaz_run.specs.declared.command.Command.{Command}
 use Rattle.topaz_run.specs.declared.command.Command.TheVariants as code
-use Rattle.topaz_run.specs.Words.{Command as Meant, Bare, Dtb}
+use Rattle.topaz_run.specs.Words.{Command as Meant, Bare, Dtb, Check}
 
 abbrev pub meant : Command → Meant
 meant (code.Bare image turns) = Bare image.now turns
 meant (code.Dtb file) = Dtb file.now
+meant (code.Check config hw) = Check config.now hw.now

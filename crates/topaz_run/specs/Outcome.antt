@@ -1,10 +1,16 @@
 -- What the words mean over what the files contain, and which files they need.
-use Rattle.std.specs.Prelude.{ℕ, List, [], ◌++◌, Option, None, Some, Bool, nat_lt, length, codes, decimal, if◌then◌else◌}
+use Rattle.std.specs.Prelude.{ℕ, List, [], ◌∷◌, ◌++◌, Option, None, Some, Bool, nat_lt, length, codes, decimal, if◌then◌else◌}
 use Rattle.dt_model.specs.Fault.{first_fault}
 use Rattle.dt_model.specs.Canonical.{rewritten, most_bytes}
 use Rattle.outside.specs.Content.{Content}
+use Rattle.hv_config.specs.declared.config.Config.{Config}
+use Rattle.hv_config.specs.declared.fault.Rule.{Rule}
+use Rattle.hv_config.specs.Rule.{Breach}
+use Rattle.hv_read.specs.Read.{Flaw, BlobRule, TreeRule, config_flaw, config_said, hardware_flaw, board_said}
+use Rattle.config_checks.specs.Rules.{first_broken}
 use Rattle.partition.specs.Machine.{memory_size}
-use Rattle.topaz_run.specs.Words.{Command, Bare, Dtb, command_of}
+use Rattle.topaz_run.specs.Words.{Command, Bare, Dtb, Check, command_of}
+use Rattle.topaz_run.specs.Text.{accepted_line}
 use Rattle.topaz_run.specs.Report.{run, fresh}
 use Rattle.topaz_run.specs.Plan.{Outcome, Misused, Lacking, Refused, Done, Plan, Ends, Opens, refusal, outcome_of, needs_of}
 
@@ -39,12 +45,51 @@ rewriting name bytes None = writing name (rewritten bytes)
 abbrev pub dtb : List ℕ → List ℕ → Outcome
 dtb name bytes = rewriting name bytes (first_fault bytes)
 
+-- ---- check
+
+-- a rule by its letter and its number
+abbrev pub rule_text : Rule → List ℕ
+rule_text rule = (rule.letter ∷ []) ++ decimal rule.number
+
+-- the rule is broken at the node
+abbrev pub broken : Breach → Outcome
+broken breach = refusal (rule_text breach.rule) breach.at
+
+-- a rule of blobs is broken at the file's word, one of trees at a node
+abbrev pub flawed : List ℕ → Flaw → Outcome
+flawed file (BlobRule rule) = refusal (blob_rule rule) file
+flawed file (TreeRule breach) = broken breach
+
+-- by the first of the rules C5 to C22 that the configuration breaks, or else its numbers
+abbrev pub accepting : Config → Option Breach → Outcome
+accepting config (Some breach) = broken breach
+accepting config None = Done (accepted_line (length config.parts) (length config.areas) (length config.channels) (length config.bells))
+
+-- what comes of the hardware's file
+abbrev pub equipped : List ℕ → Config → List ℕ → Option Flaw → Outcome
+equipped hw config bytes (Some flaw) = flawed hw flaw
+equipped hw config bytes None = accepting config (first_broken config (board_said bytes))
+
+-- the hardware is read where the configuration's file is right
+abbrev pub equipping : List ℕ → Config → Plan
+equipping hw config = Opens hw hw (λ bytes. Ends (equipped hw config bytes (hardware_flaw bytes)))
+
+-- how it goes on behind the configuration's file
+abbrev pub configured : List ℕ → List ℕ → List ℕ → Option Flaw → Plan
+configured config hw bytes (Some flaw) = Ends (flawed config flaw)
+configured config hw bytes None = equipping hw (config_said bytes)
+
+-- the configuration's file is right before the hardware's is opened
+abbrev pub checking : List ℕ → List ℕ → Plan
+checking config hw = Opens config config (λ bytes. configured config hw bytes (config_flaw bytes))
+
 -- ---- every command
 
 -- the order of each command; F1 of a file that a word names is at that word
 abbrev pub plan_of : Command → Plan
 plan_of (Bare image turns) = Opens image image (λ bytes. Ends (bare image turns bytes))
 plan_of (Dtb file) = Opens file file (λ bytes. Ends (dtb file bytes))
+plan_of (Check config hw) = checking config hw
 
 abbrev pub outcome_if : Option Command → Content → Outcome
 outcome_if None content = Misused

@@ -13,17 +13,23 @@ pub data Command : Type 0 where
   Bare : List ℕ → ℕ → Command
   -- the canonical blob of the tree in the file of that name
   Dtb : List ℕ → Command
+  -- whether the configuration in the first file is accepted on the hardware in the second
+  Check : List ℕ → List ℕ → Command
 
 abbrev pub bare_of : List ℕ → List ℕ → Option Command
 bare_of image turns = option_map (λ n. Bare image n) (number_of most_turns turns)
 
--- `bare IMAGE N` and `dtb FILE`; every other list of words asks for nothing
+-- `bare IMAGE N`, `dtb FILE` and `check CONFIG HW`; every other list of words asks for nothing
 abbrev pub command_of : List (List ℕ) → Option Command
 command_of (verb ∷ file ∷ []) = if bytes_eq verb (codes "dtb") then Some (Dtb file) else None
-command_of (verb ∷ image ∷ turns ∷ []) = if bytes_eq verb (codes "bare") then bare_of image turns else None
+command_of (verb ∷ first ∷ second ∷ []) =
+    if bytes_eq verb (codes "bare") then bare_of first second
+    else if bytes_eq verb (codes "check") then Some (Check first second)
+    else None
 command_of _ = None
 
 -- the numbers of a command keep their limits
 abbrev pub KeepsLimits : Command → Type 0
 KeepsLimits (Bare image turns) = turns ≤ most_turns
 KeepsLimits (Dtb file) = ⊤
+KeepsLimits (Check config hw) = ⊤

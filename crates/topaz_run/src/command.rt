@@ -7,4 +7,6 @@ pub enum Command<'a> {
     Bare { image: &'a str, turns: u64 },
     /// The canonical blob of the tree in the file of that name.
     Dtb { file: &'a str },
+    /// Whether the configuration in the first file is accepted on the hardware in the second.
+    Check { config: &'a str, hw: &'a str },
 }

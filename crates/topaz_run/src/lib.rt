@@ -1,12 +1,13 @@
 //! The top call: what the words of the command line mean, from the files that they name to the bytes that
 //! are written.
 //!
-//! It stands on `outside` (files and sinks), `partition` (the machine), and `dt_model`, `dt_read` and
-//! `dt_write` (blobs). Its contract is the main theorem: the status and the bytes written are those of `outcome`, in
+//! It stands on `outside` (files and sinks), `partition` (the machine), `dt_model`, `dt_read` and `dt_write` (blobs),
+//! and `hv_config`, `hv_read` and `config_rules` (configurations and hardware). Its contract is the main theorem: the status and the bytes written are those of `outcome`, in
 //! `specs/Outcome.antt`, and each other answer has its cause.
 #![tactic(auto)]
 
 mod bare;
+mod check;
 mod command;
 mod deliver;
 mod dtb;
@@ -26,6 +27,10 @@ pub use top_call::topaz;
 
 #[cfg(test)]
 mod blob_tests;
+#[cfg(test)]
+mod check_blobs;
+#[cfg(test)]
+mod check_tests;
 #[cfg(test)]
 mod images;
 #[cfg(test)]

@@ -2,12 +2,14 @@
 
 ghost use Rattle.std.specs.Prelude.{◌≡◌, ◌≢◌};
 ghost use Rattle.topaz_run.specs.Plan.{refusal};
-ghost use Rattle.topaz_run.specs.Outcome.{blob_rule};
-ghost use Rattle.topaz_run.specs.Answers.{Stops};
+ghost use Rattle.topaz_run.specs.Outcome.{blob_rule, rule_text};
+ghost use Rattle.topaz_run.specs.Answers.{RefusesFault, RefusesMisread, Stops};
 
 use crate::gathered::Gathered;
 use crate::status::Stop;
-use crate::text::{write_refused, write_refused_blob};
+use crate::text::{write_refused, write_refused_blob, write_refused_rule};
+use hv_config::{Fault, Rule};
+use hv_read::Misread;
 use outside::Failed;
 use std::alloc::Global;
 
@@ -32,5 +34,40 @@ pub fn refused_blob(alloc: Global, rule: u8, file: &str) -> Stop
     match write_refused_blob(&mut text, rule, file.as_bytes()) {
         Ok(()) => Stop::Refused(text.into_bytes()),
         Err(Failed) => Stop::NoMemory,
+    }
+}
+
+/// The rule is broken at the node with the path.
+fn refused_rule(alloc: Global, rule: Rule, at: &[u8]) -> Stop
+    ensures refusal { Stops result (refusal (rule_text rule) at.now) }
+    ensures no_fault { result ≢ Stop.ReadFault }
+{
+    let mut text = Gathered::new(alloc);
+    match write_refused_rule(&mut text, rule, at) {
+        Ok(()) => Stop::Refused(text.into_bytes()),
+        Err(Failed) => Stop::NoMemory,
+    }
+}
+
+/// The configuration is refused by the fault.
+pub fn refused_fault(alloc: Global, fault: Fault) -> Stop
+    ensures refusal { RefusesFault fault result }
+    ensures no_fault { result ≢ Stop.ReadFault }
+{
+    match fault {
+        Fault::Broken { rule, at } => refused_rule(alloc, rule, at.as_slice()),
+        Fault::NoMemory => Stop::NoMemory,
+    }
+}
+
+/// The file with that name isn't read.
+pub fn refused_misread(alloc: Global, misread: Misread, file: &str) -> Stop
+    ensures refusal { RefusesMisread file.now misread result }
+    ensures no_fault { result ≢ Stop.ReadFault }
+{
+    match misread {
+        Misread::Blob(rule) => refused_blob(alloc, rule, file),
+        Misread::Broken { rule, at } => refused_rule(alloc, rule, at.as_slice()),
+        Misread::NoMemory => Stop::NoMemory,
     }
 }

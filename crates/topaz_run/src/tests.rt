@@ -9,7 +9,10 @@ use std::test::Fail;
 const HELLO_TEXT: &str = "guest 6 sent 1 4869\nend guest running 7\nconsole con 2 0 0\n";
 
 /// Lists of words that are of no form, with bars between the words.
-const OUT_OF_FORM: [&str; 24] = [
+const OUT_OF_FORM: [&str; 27] = [
+    "check|image",
+    "check|image|image|image",
+    "Check|image|image",
     "dtb",
     "dtb|image|7",
     "DTB|image",

@@ -3,9 +3,10 @@
 ghost use Rattle.std.specs.Prelude.{◌≡◌, ◌≤◌, ◌*◌, length, take, codes};
 ghost use Rattle.hex.specs.Hex.{encode_lower};
 ghost use Rattle.outside.specs.Pieces.{Writes};
-ghost use Rattle.topaz_run.specs.Outcome.{blob_rule};
-ghost use Rattle.topaz_run.specs.Text.{sent_line, faulted_line, state_word, end_line, console_line, refused_line, step_place};
+ghost use Rattle.topaz_run.specs.Outcome.{blob_rule, rule_text};
+ghost use Rattle.topaz_run.specs.Text.{accepted_line, sent_line, faulted_line, state_word, end_line, console_line, refused_line, step_place};
 
+use hv_config::Rule;
 use itoa::Buffer;
 use outside::{Failed, Sink, write_pieces};
 
@@ -139,6 +140,57 @@ pub fn write_refused_blob<S: Sink>(out: &mut S, rule: u8, file: &[u8]) -> Result
             digits.format(rule).as_bytes(),
             b" at ",
             file,
+            b"\n",
+        ],
+    )
+}
+
+/// The rule of that letter and number is broken at the place.
+pub fn write_refused_rule<S: Sink>(out: &mut S, rule: Rule, place: &[u8]) -> Result<(), Failed>
+    ensures { Writes result (S.taken out.old) (S.taken out.new) (S.faults out.old) (S.faults out.new)
+        (refused_line (rule_text rule) place.now) }
+{
+    let mut digits = Buffer::new();
+    let letter = [rule.letter];
+    write_pieces(
+        out,
+        &[
+            b"refused ",
+            &letter,
+            digits.format(rule.number).as_bytes(),
+            b" at ",
+            place,
+            b"\n",
+        ],
+    )
+}
+
+/// How many partitions, areas, channels and doorbells the accepted configuration has.
+pub fn write_accepted<S: Sink>(
+    out: &mut S,
+    parts: usize,
+    areas: usize,
+    channels: usize,
+    bells: usize,
+) -> Result<(), Failed>
+    ensures { Writes result (S.taken out.old) (S.taken out.new) (S.faults out.old) (S.faults out.new)
+        (accepted_line parts areas channels bells) }
+{
+    let mut parts_digits = Buffer::new();
+    let mut areas_digits = Buffer::new();
+    let mut channels_digits = Buffer::new();
+    let mut bells_digits = Buffer::new();
+    write_pieces(
+        out,
+        &[
+            b"accepted ",
+            parts_digits.format(parts).as_bytes(),
+            b" ",
+            areas_digits.format(areas).as_bytes(),
+            b" ",
+            channels_digits.format(channels).as_bytes(),
+            b" ",
+            bells_digits.format(bells).as_bytes(),
             b"\n",
         ],
     )

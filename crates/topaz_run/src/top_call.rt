@@ -10,6 +10,7 @@ ghost use Rattle.topaz_run.specs.Answers.{IsAnswerTo, Flushes, LeavesSink, Meets
 ghost use Rattle.topaz_run.specs.Meant.{meant};
 
 use crate::bare::bare;
+use crate::check::check;
 use crate::command::Command;
 use crate::deliver::deliver;
 use crate::dtb::dtb;
@@ -72,6 +73,7 @@ fn answer<F: Files>(alloc: Global, command: Command<'_>, files: &mut F) -> Resul
     match command {
         Command::Bare { image, turns } => bare(alloc, files, image, turns),
         Command::Dtb { file } => dtb(alloc, files, file),
+        Command::Check { config, hw } => check(alloc, files, config, hw),
     }
 }
 

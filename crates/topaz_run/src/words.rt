@@ -24,6 +24,10 @@ pub fn command<'a>(words: &'a [String]) -> Option<Command<'a>>
                 turns,
             })
         }
+        [verb, config, hw] if verb.as_str() == "check" => Some(Command::Check {
+            config: config.as_str(),
+            hw: hw.as_str(),
+        }),
         [verb, file] if verb.as_str() == "dtb" => Some(Command::Dtb {
             file: file.as_str(),
         }),
