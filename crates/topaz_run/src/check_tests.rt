@@ -54,6 +54,21 @@ fn blob_of(
     Ok(Bytes::from_vec(blob))
 }
 
+/// The configuration, with changes.
+fn two(alloc: Global, changes: &[Change]) -> Result<Bytes, NoMemory> {
+    blob_of(alloc, &TWO, TWO_STRINGS, changes)
+}
+
+/// The configuration without its strings.
+fn front_of_two(alloc: Global) -> Result<Bytes, NoMemory> {
+    blob_of(alloc, &TWO, b"", &[])
+}
+
+/// The hardware, with changes.
+fn hardware(alloc: Global, changes: &[Change]) -> Result<Bytes, NoMemory> {
+    blob_of(alloc, &HARDWARE, HARDWARE_STRINGS, changes)
+}
+
 /// What `check c h` answers and writes, where the files have these bytes.
 fn check(
     alloc: Global,
@@ -81,86 +96,54 @@ fn check(
     Ok((status, out))
 }
 
+/// Whether `check` writes the text, and answers as it says.
+fn writes(
+    alloc: Global,
+    config: Bytes,
+    board: Option<Bytes>,
+    text: &str,
+) -> Result<bool, NoMemory> {
+    let (status, out) = check(alloc, config, board)?;
+    let expected = if text.starts_with("accepted") {
+        Status::Ok
+    } else if text.starts_with("refused") {
+        Status::Refused
+    } else {
+        Status::ReadFault
+    };
+    Ok(status == expected && out.bytes() == text.as_bytes())
+}
+
 #[test]
 fn configurations_are_accepted_or_refused(rt: HostRuntime) -> Result<(), Fail> {
     let alloc = rt.alloc();
-    for (changes, hardware, text) in [
-        ([].as_slice(), [].as_slice(), "accepted 2 2 2 0\n"),
-        (
-            [OVERLAP].as_slice(),
-            [].as_slice(),
-            "refused C10 at /areas/b\n",
-        ),
-        (
-            [OVERLAP, cpu(0)].as_slice(),
-            [].as_slice(),
-            "refused C10 at /areas/b\n",
-        ),
-        (
-            [cpu(0)].as_slice(),
-            [].as_slice(),
-            "refused C17 at /partitions/q\n",
-        ),
-        (
-            [cpu(2)].as_slice(),
-            [].as_slice(),
-            "refused C16 at /partitions/q\n",
-        ),
-        (
-            [UNLINKED].as_slice(),
-            [].as_slice(),
-            "refused C19 at /channels/y\n",
-        ),
-        (
-            [cpu(0)].as_slice(),
-            [second(0)].as_slice(),
-            "refused H2 at /cpus/cpu@1\n",
-        ),
+    for (changes, text) in [
+        ([].as_slice(), "accepted 2 2 2 0\n"),
+        ([OVERLAP].as_slice(), "refused C10 at /areas/b\n"),
+        ([OVERLAP, cpu(0)].as_slice(), "refused C10 at /areas/b\n"),
+        ([cpu(0)].as_slice(), "refused C17 at /partitions/q\n"),
+        ([cpu(2)].as_slice(), "refused C16 at /partitions/q\n"),
+        ([UNLINKED].as_slice(), "refused C19 at /channels/y\n"),
     ] {
-        let config = blob_of(alloc, &TWO, TWO_STRINGS, changes)?;
-        let board = blob_of(alloc, &HARDWARE, HARDWARE_STRINGS, hardware)?;
-        let (status, out) = check(alloc, config, Some(board))?;
-        assert_eq!(rt; out.bytes(), text.as_bytes(), "{text}");
-        assert_eq!(rt;
-            status == Status::Ok,
-            text.starts_with("accepted"),
-            "{text}"
-        );
-        assert_eq!(rt;
-            status == Status::Refused,
-            text.starts_with("refused"),
+        let board = hardware(alloc, &[])?;
+        assert!(rt;
+            writes(alloc, two(alloc, changes)?, Some(board), text)?,
             "{text}"
         );
     }
+    let twice = hardware(alloc, &[second(0)])?;
+    let config = two(alloc, &[cpu(0)])?;
+    assert!(rt; writes(alloc, config, Some(twice), "refused H2 at /cpus/cpu@1\n")?);
     Ok(())
 }
 
 #[test]
 fn the_hardware_is_opened_behind_a_right_configuration(rt: HostRuntime) -> Result<(), Fail> {
     let alloc = rt.alloc();
-    for (strings, changes, status, text) in [
-        (
-            TWO_STRINGS,
-            ODD.as_slice(),
-            Status::Refused,
-            "refused C2 at /\n",
-        ),
-        (
-            b"".as_slice(),
-            [].as_slice(),
-            Status::Refused,
-            "refused B4 at c\n",
-        ),
-        (TWO_STRINGS, [].as_slice(), Status::ReadFault, ""),
-    ] {
-        let config = blob_of(alloc, &TWO, strings, changes)?;
-        let (answer, out) = check(alloc, config, None)?;
-        assert_eq!(rt; answer, status, "{text}");
-        assert_eq!(rt; out.bytes(), text.as_bytes(), "{text}");
-    }
-    let config = blob_of(alloc, &TWO, TWO_STRINGS, &[])?;
-    let (status, out) = check(alloc, config, Some(Bytes::of(alloc, b"none")?))?;
-    assert_eq!(rt; status, Status::Refused);
-    assert_eq!(rt; out.bytes(), b"refused B1 at h\n".as_slice());
+    assert!(rt; writes(alloc, two(alloc, &ODD)?, None, "refused C2 at /\n")?);
+    assert!(rt; writes(alloc, front_of_two(alloc)?, None, "refused B4 at c\n")?);
+    assert!(rt; writes(alloc, two(alloc, &[])?, None, "")?);
+    let other = Bytes::of(alloc, b"none")?;
+    assert!(rt; writes(alloc, two(alloc, &[])?, Some(other), "refused B1 at h\n")?);
     Ok(())
 }
