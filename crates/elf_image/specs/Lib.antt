@@ -1,0 +1,4 @@
+pub mod Header
+pub mod Segment
+pub mod Piece
+pub mod Image

@@ -1,0 +1,4 @@
+pub mod Described
+pub mod Fresh
+pub mod Loading
+pub mod Placed
