@@ -49,7 +49,7 @@ fn port_of(alloc: Global, config: &Config, next: u8, handle: &HandleDef) -> Resu
 }
 
 /// How many interrupts a handle of the kind takes.
-fn interrupts_of(kind: Kind) -> u8
+pub fn interrupts_of(kind: Kind) -> u8
     ensures value { result ≡ spec.interrupts_of kind }
     ensures few { result ≤ 2 }
 {

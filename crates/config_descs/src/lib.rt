@@ -14,6 +14,7 @@ mod refs;
 mod tests;
 mod wired;
 
+pub use handles::interrupts_of;
 pub use memory::shares;
 pub use parts::desc_of;
 pub use wired::wiring_of;

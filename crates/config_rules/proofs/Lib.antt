@@ -13,3 +13,4 @@ pub mod Ports
 pub mod Stripped
 pub mod Joined
 pub mod Limits
+pub mod Parts

@@ -112,7 +112,7 @@ length-ports : (config : Config) (next : ℕ) (handles : List HandleDef) → len
 length-ports config next [] = refl
 length-ports config next (handle ∷ handles) = ap suc (length-ports config (next + interrupts_of handle.kind) handles)
 
-one_core : (part : PartDef) → not (is_miscounted part) ≡ true → length part.cpus ≡ 1
+pub one_core : (part : PartDef) → not (is_miscounted part) ≡ true → length part.cpus ≡ 1
 one_core part e =
     let yes : (length part.cpus == 1) ≡ true = elim (length part.cpus == 1) as (λ b. not (not b) ≡ true → b ≡ true) [ true ↦ λ e. refl | false ↦ λ e. absurd cc ] e in
     (Decides-eqb (length part.cpus) 1).0 yes

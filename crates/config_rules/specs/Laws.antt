@@ -8,6 +8,7 @@ use Rattle.config_descs.specs.Limits.{KeepsLimits}
 use Rattle.config_descs.specs.Wired.{wiring_of}
 use Rattle.config_rules.specs.Accepted.{IsAccepted}
 use Rattle.config_rules.specs.Completed.{AreCompleted}
+use Rattle.config_rules.specs.Parts.{KeepsParts}
 
 -- The descriptions of its partitions are joined with its wiring.
 abbrev pub BasesAreJoined : Type 0
@@ -20,3 +21,7 @@ CompletedAreJoined = (config : Config) → IsAccepted config → (descs : List D
 -- It keeps the limits that its descriptions rest on.
 abbrev pub AcceptedKeepLimits : Type 0
 AcceptedKeepLimits = (config : Config) → IsAccepted config → KeepsLimits config
+
+-- So does each of its partitions, whose window for its device tree is private.
+abbrev pub AcceptedKeepParts : Type 0
+AcceptedKeepParts = (config : Config) → IsAccepted config → KeepsParts config

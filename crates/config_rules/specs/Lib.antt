@@ -1,3 +1,4 @@
 pub mod Accepted
 pub mod Completed
+pub mod Parts
 pub mod Laws

@@ -1,6 +1,6 @@
 //! Laws of the definitions. Each is a function with nothing to do, whose contract is the law.
 
-ghost use Rattle.config_rules.specs.Laws.{AcceptedKeepLimits, BasesAreJoined, CompletedAreJoined};
+ghost use Rattle.config_rules.specs.Laws.{AcceptedKeepLimits, AcceptedKeepParts, BasesAreJoined, CompletedAreJoined};
 
 /// The descriptions of an accepted configuration are joined with its wiring, before and after images and device trees
 /// complete them.
@@ -12,4 +12,9 @@ pub fn descriptions_are_joined()
 /// An accepted configuration keeps the limits that its descriptions rest on.
 pub fn accepted_keep_limits()
     ensures { AcceptedKeepLimits }
+{}
+
+/// Each partition of an accepted configuration keeps its limits, and has a private window for its device tree.
+pub fn accepted_keep_parts()
+    ensures { AcceptedKeepParts }
 {}

@@ -1,0 +1,6 @@
+pub mod Values
+pub mod Properties
+pub mod Tokens
+pub mod Rows
+pub mod Guest
+pub mod Laws
