@@ -8,7 +8,7 @@ use Rattle.topaz_run.specs.Plan.{Plan, Opens, needs_of, needed_behind}
 use Rattle.topaz_run.specs.Answers.{IsRead}
 use Rattle.topaz_run.proofs.Choices.{pass, not_below}
 
-needs_behind : (content : Content) (name place bytes : List ℕ) (next : List ℕ → Plan) → IsRead content name bytes
+pub needs_behind : (content : Content) (name place bytes : List ℕ) (next : List ℕ → Plan) → IsRead content name bytes
     → needs_of content (Opens name place next) ≡ cut name ∷ needs_of content (next bytes)
 needs_behind content name place bytes next read =
     ap (λ (file : Option (List ℕ)). cut name ∷ needed_behind file (λ bytes. needs_of content (next bytes))) read.is

@@ -5,3 +5,6 @@ pub mod Spellings
 pub mod Turns
 pub mod Blobs
 pub mod Checks
+pub mod GoingOn
+pub mod Named
+pub mod Described

@@ -2,7 +2,7 @@
 use Rattle.std.proofs.Common.{◌≡◌, ℕ, ◌<◌, ◌≤◌, nat_lt, List, length, codes, Option, None, Some, Result, Ok, Err, IfSome, IsSomeAnd, ap, ◌∙◌}
 use Rattle.outside.specs.Limit.{file_limit}
 use Rattle.outside.specs.Content.{Content, file_of, IsFile, IsLonger}
-use Rattle.topaz_run.specs.Plan.{Outcome, Plan, Ends, Opens, Refused, refusal, opened, outcome_of}
+use Rattle.topaz_run.specs.Plan.{Outcome, Plan, Ends, Opens, refusal, opened, outcome_of}
 use Rattle.topaz_run.specs.Answers.{Stops, Meets, IsRead}
 use Rattle.topaz_run.specs.declared.status.Stop.{Stop}
 use Rattle.topaz_run.specs.declared.status.Stop.TheVariants as stop

@@ -1,5 +1,5 @@
 -- What the answers of a command and of the top call say of the outcome.
-use Rattle.std.specs.Prelude.{◌≡◌, ℕ, ◌≤◌, ⊤, Bool, true, List, length, Option, Some, Result, Ok, Err}
+use Rattle.std.specs.Prelude.{◌≡◌, ℕ, ◌≤◌, ⊤, Bool, true, List, length, Option, Some, Result, Ok, Err, Contains}
 use Rattle.std.specs.Io.KnownBytes.{Keeps, Appends}
 use Rattle.topaz_run.specs.declared.status.Status.{Status}
 use Rattle.topaz_run.specs.declared.status.Status.TheVariants as status
@@ -11,7 +11,7 @@ use Rattle.hv_config.specs.declared.fault.Fault.{Fault}
 use Rattle.hv_config.specs.declared.fault.Fault.TheVariants as fault
 use Rattle.hv_read.specs.declared.misread.Misread.{Misread}
 use Rattle.hv_read.specs.declared.misread.Misread.TheVariants as misread
-use Rattle.topaz_run.specs.Plan.{Outcome, Misused, Lacking, Refused, Done, refusal}
+use Rattle.topaz_run.specs.Plan.{Outcome, Misused, Lacking, Refused, Done, Plan, refusal, outcome_of, needs_of}
 use Rattle.topaz_run.specs.Outcome.{blob_rule, rule_text}
 
 -- an early end of a command is the outcome's refusal, but for a fault and want of memory
@@ -35,6 +35,11 @@ RefusesMisread file misread.NoMemory end = end ≡ stop.NoMemory
 abbrev pub Meets : Result (List ℕ) Stop → Outcome → Type 0
 Meets (Ok bytes) outcome = outcome ≡ Done bytes
 Meets (Err stop) outcome = Stops stop outcome
+
+-- A plan goes on as another does: it comes to the same, and what that one needs it needs.
+pub record GoesOn (content : Content) (whole rest : Plan) : Type 0 where
+  pub comes_to : outcome_of content whole ≡ outcome_of content rest
+  pub needs : (name : List ℕ) → Contains (needs_of content rest) name → Contains (needs_of content whole) name
 
 -- a file was read: it has these bytes, no more than the limit
 pub record IsRead (content : Content) (name bytes : List ℕ) : Type 0 where

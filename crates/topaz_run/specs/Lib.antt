@@ -7,3 +7,4 @@ pub mod Report
 pub mod Plan
 pub mod Outcome
 pub mod Answers
+pub mod Laws

@@ -3,13 +3,16 @@ use Rattle.std.specs.Prelude.{ℕ, List, [], ◌∷◌, ◌++◌, Option, None, 
 use Rattle.dt_model.specs.Fault.{first_fault}
 use Rattle.dt_model.specs.Canonical.{rewritten, most_bytes}
 use Rattle.outside.specs.Content.{Content}
+use Rattle.hv_config.specs.declared.config.PartDef.{PartDef}
 use Rattle.hv_config.specs.declared.config.Config.{Config}
 use Rattle.hv_config.specs.declared.fault.Rule.{Rule}
 use Rattle.hv_config.specs.Rule.{Breach}
 use Rattle.hv_read.specs.Read.{Flaw, BlobRule, TreeRule, config_flaw, config_said, hardware_flaw, board_said}
 use Rattle.config_checks.specs.Rules.{first_broken}
+use Rattle.config_descs.specs.Numbered.{part_named}
+use Rattle.guest_tree.specs.Guest.{guest_blob}
 use Rattle.partition.specs.Machine.{memory_size}
-use Rattle.topaz_run.specs.Words.{Command, Bare, Dtb, Check, command_of}
+use Rattle.topaz_run.specs.Words.{Command, Bare, Dtb, Check, Guest, command_of}
 use Rattle.topaz_run.specs.Text.{accepted_line}
 use Rattle.topaz_run.specs.Report.{run, fresh}
 use Rattle.topaz_run.specs.Plan.{Outcome, Misused, Lacking, Refused, Done, Plan, Ends, Opens, refusal, outcome_of, needs_of}
@@ -60,28 +63,48 @@ abbrev pub flawed : List ℕ → Flaw → Outcome
 flawed file (BlobRule rule) = refusal (blob_rule rule) file
 flawed file (TreeRule breach) = broken breach
 
--- by the first of the rules C5 to C22 that the configuration breaks, or else its numbers
-abbrev pub accepting : Config → Option Breach → Outcome
-accepting config (Some breach) = broken breach
-accepting config None = Done (accepted_line (length config.parts) (length config.areas) (length config.channels) (length config.bells))
+-- by the first of the rules C5 to C22 that the configuration breaks, or else it goes on
+abbrev pub ruled : (Config → Plan) → Config → Option Breach → Plan
+ruled next config (Some breach) = Ends (broken breach)
+ruled next config None = next config
 
 -- what comes of the hardware's file
-abbrev pub equipped : List ℕ → Config → List ℕ → Option Flaw → Outcome
-equipped hw config bytes (Some flaw) = flawed hw flaw
-equipped hw config bytes None = accepting config (first_broken config (board_said bytes))
+abbrev pub equipped : List ℕ → (Config → Plan) → Config → List ℕ → Option Flaw → Plan
+equipped hw next config bytes (Some flaw) = Ends (flawed hw flaw)
+equipped hw next config bytes None = ruled next config (first_broken config (board_said bytes))
 
 -- the hardware is read where the configuration's file is right
-abbrev pub equipping : List ℕ → Config → Plan
-equipping hw config = Opens hw hw (λ bytes. Ends (equipped hw config bytes (hardware_flaw bytes)))
+abbrev pub equipping : List ℕ → (Config → Plan) → Config → Plan
+equipping hw next config = Opens hw hw (λ bytes. equipped hw next config bytes (hardware_flaw bytes))
 
 -- how it goes on behind the configuration's file
-abbrev pub configured : List ℕ → List ℕ → List ℕ → Option Flaw → Plan
-configured config hw bytes (Some flaw) = Ends (flawed config flaw)
-configured config hw bytes None = equipping hw (config_said bytes)
+abbrev pub configured : List ℕ → List ℕ → (Config → Plan) → List ℕ → Option Flaw → Plan
+configured config hw next bytes (Some flaw) = Ends (flawed config flaw)
+configured config hw next bytes None = equipping hw next (config_said bytes)
 
--- the configuration's file is right before the hardware's is opened
+-- The configuration's file is right before the hardware's is opened, and it goes on with the configuration that is accepted.
+abbrev pub accepting : List ℕ → List ℕ → (Config → Plan) → Plan
+accepting config hw next = Opens config config (λ bytes. configured config hw next bytes (config_flaw bytes))
+
+-- an accepted configuration's numbers
+abbrev pub numbers : Config → Outcome
+numbers config = Done (accepted_line (length config.parts) (length config.areas) (length config.channels) (length config.bells))
+
 abbrev pub checking : List ℕ → List ℕ → Plan
-checking config hw = Opens config config (λ bytes. configured config hw bytes (config_flaw bytes))
+checking config hw = accepting config hw (λ said. Ends (numbers said))
+
+-- ---- guest
+
+-- the blob of a partition's guest tree: Q1 where there is no partition of the name
+abbrev pub guest_of : List ℕ → Config → Option PartDef → Outcome
+guest_of name config None = refusal (codes "Q1") name
+guest_of name config (Some part) = Done (guest_blob config part)
+
+abbrev pub guest : List ℕ → Config → Outcome
+guest name config = guest_of name config (part_named config.parts name)
+
+abbrev pub showing : List ℕ → List ℕ → List ℕ → Plan
+showing config hw name = accepting config hw (λ said. Ends (guest name said))
 
 -- ---- every command
 
@@ -90,6 +113,7 @@ abbrev pub plan_of : Command → Plan
 plan_of (Bare image turns) = Opens image image (λ bytes. Ends (bare image turns bytes))
 plan_of (Dtb file) = Opens file file (λ bytes. Ends (dtb file bytes))
 plan_of (Check config hw) = checking config hw
+plan_of (Guest config hw name) = showing config hw name
 
 abbrev pub outcome_if : Option Command → Content → Outcome
 outcome_if None content = Misused

@@ -15,17 +15,20 @@ pub data Command : Type 0 where
   Dtb : List ℕ → Command
   -- whether the configuration in the first file is accepted on the hardware in the second
   Check : List ℕ → List ℕ → Command
+  -- the guest tree of the partition of that name, where the configuration is accepted
+  Guest : List ℕ → List ℕ → List ℕ → Command
 
 abbrev pub bare_of : List ℕ → List ℕ → Option Command
 bare_of image turns = option_map (λ n. Bare image n) (number_of most_turns turns)
 
--- `bare IMAGE N`, `dtb FILE` and `check CONFIG HW`; every other list of words asks for nothing
+-- `bare IMAGE N`, `dtb FILE`, `check CONFIG HW` and `guest CONFIG HW NAME`; every other list of words asks for nothing
 abbrev pub command_of : List (List ℕ) → Option Command
 command_of (verb ∷ file ∷ []) = if bytes_eq verb (codes "dtb") then Some (Dtb file) else None
 command_of (verb ∷ first ∷ second ∷ []) =
     if bytes_eq verb (codes "bare") then bare_of first second
     else if bytes_eq verb (codes "check") then Some (Check first second)
     else None
+command_of (verb ∷ first ∷ second ∷ third ∷ []) = if bytes_eq verb (codes "guest") then Some (Guest first second third) else None
 command_of _ = None
 
 -- the numbers of a command keep their limits
@@ -33,3 +36,4 @@ abbrev pub KeepsLimits : Command → Type 0
 KeepsLimits (Bare image turns) = turns ≤ most_turns
 KeepsLimits (Dtb file) = ⊤
 KeepsLimits (Check config hw) = ⊤
+KeepsLimits (Guest config hw name) = ⊤

@@ -1,7 +1,9 @@
-//! What no clause says of `check`: the lines of configurations that were worked out by hand.
+//! What no clause says of `check` and `guest`: what is written of configurations that were worked out by hand.
 
 use super::check_blobs::*;
 use super::{Status, topaz};
+use dt_model::{Tree, node_at, prop};
+use dt_read::{BlobFault, read};
 use outside::{Bytes, MemFiles, MemSink, NamedFile, NoMemory};
 use std::alloc::Global;
 use std::test::Fail;
@@ -69,12 +71,12 @@ fn hardware(alloc: Global, changes: &[Change]) -> Result<Bytes, NoMemory> {
     blob_of(alloc, &HARDWARE, HARDWARE_STRINGS, changes)
 }
 
-/// What `check c h` answers and writes, where the files have these bytes.
-fn check(
+/// The files `c` and `h`; without the hardware there is no `h`.
+fn files_of(
     alloc: Global,
     config: Bytes,
     hardware: Option<Bytes>,
-) -> Result<(Status, MemSink), NoMemory> {
+) -> Result<Vec<NamedFile>, NoMemory> {
     let mut list = Vec::new(alloc);
     list.push(NamedFile {
         name: Bytes::of(alloc, b"c")?,
@@ -86,13 +88,22 @@ fn check(
             bytes,
         })?;
     }
+    Ok(list)
+}
+
+/// What the words answer and write.
+fn answer(
+    alloc: Global,
+    words: &[&str],
+    list: Vec<NamedFile>,
+) -> Result<(Status, MemSink), NoMemory> {
     let mut files = MemFiles::new(list, Vec::new(alloc));
-    let mut out = MemSink::new(alloc, 100, Vec::new(alloc))?;
-    let mut words = Vec::new(alloc);
-    words.push(String::from_str(alloc, "check")?)?;
-    words.push(String::from_str(alloc, "c")?)?;
-    words.push(String::from_str(alloc, "h")?)?;
-    let status = topaz(alloc, &words, &mut files, &mut out);
+    let mut out = MemSink::new(alloc, 4096, Vec::new(alloc))?;
+    let mut owned = Vec::new(alloc);
+    for word in words {
+        owned.push(String::from_str(alloc, word)?)?;
+    }
+    let status = topaz(alloc, &owned, &mut files, &mut out);
     Ok((status, out))
 }
 
@@ -103,7 +114,8 @@ fn writes(
     board: Option<Bytes>,
     text: &str,
 ) -> Result<bool, NoMemory> {
-    let (status, out) = check(alloc, config, board)?;
+    let list = files_of(alloc, config, board)?;
+    let (status, out) = answer(alloc, &["check", "c", "h"], list)?;
     let expected = if text.starts_with("accepted") {
         Status::Ok
     } else if text.starts_with("refused") {
@@ -145,5 +157,59 @@ fn the_hardware_is_opened_behind_a_right_configuration(rt: HostRuntime) -> Resul
     assert!(rt; writes(alloc, two(alloc, &[])?, None, "")?);
     let other = Bytes::of(alloc, b"none")?;
     assert!(rt; writes(alloc, two(alloc, &[])?, Some(other), "refused B1 at h\n")?);
+    Ok(())
+}
+
+/// What `guest c h NAME` answers and writes, with changes to the configuration.
+fn guest(alloc: Global, name: &str, changes: &[Change]) -> Result<(Status, MemSink), NoMemory> {
+    let list = files_of(alloc, two(alloc, changes)?, Some(hardware(alloc, &[])?))?;
+    answer(alloc, &["guest", "c", "h", name], list)
+}
+
+/// The value of the property of the node with the path.
+fn value<'a>(tree: &'a Tree, path: &str, name: &str) -> Option<&'a [u8]> {
+    prop(node_at(tree, path.as_bytes())?, name.as_bytes())
+}
+
+#[test]
+fn guest_trees_are_written_as_blobs(rt: HostRuntime) -> Result<(), Fail> {
+    let (status, out) = guest(rt.alloc(), "p", &[])?;
+    assert_eq!(rt; status, Status::Ok);
+    let tree = match read(rt.alloc(), out.bytes()) {
+        Ok(tree) => tree,
+        Err(BlobFault::Rule(_)) => return Err("a blob".into()),
+        Err(BlobFault::NoMemory) => return Err("memory".into()),
+    };
+    for (path, name, expected) in [
+        (
+            "/memory",
+            "reg",
+            b"\0\0\0\0\0\0\0\0\0\0\0\0\0\x01\0\0".as_slice(),
+        ),
+        ("/hypervisor/handles/c", "hv-handle", b"\0\0\0\x01"),
+        (
+            "/hypervisor/handles/c",
+            "interrupts",
+            b"\0\0\0\0\0\0\0\0\0\0\0\x01\0\0\0\0",
+        ),
+        ("/", "model", b"p\0"),
+        ("/chosen", "stdout-path", b"/hypervisor/handles/c\0"),
+    ] {
+        assert_eq!(rt; value(&tree, path, name), Some(expected), "{path} {name}");
+    }
+    Ok(())
+}
+
+#[test]
+fn guest_refuses_as_check_does_and_then_the_name(rt: HostRuntime) -> Result<(), Fail> {
+    for (name, changes, text) in [
+        ("r", [].as_slice(), "refused Q1 at r\n"),
+        ("", [].as_slice(), "refused Q1 at \n"),
+        ("r", [cpu(0)].as_slice(), "refused C17 at /partitions/q\n"),
+    ] {
+        let (status, out) = guest(rt.alloc(), name, changes)?;
+        assert_eq!(rt; status, Status::Refused);
+        assert_eq!(rt; out.bytes(), text.as_bytes(), "{text}");
+    }
     Ok(())
 }

@@ -4,9 +4,23 @@
 #[derive(Clone, Copy)]
 pub enum Command<'a> {
     /// The built-in machine on the image of that name, for so many turns.
-    Bare { image: &'a str, turns: u64 },
+    Bare {
+        image: &'a str,
+        turns: u64,
+    },
     /// The canonical blob of the tree in the file of that name.
-    Dtb { file: &'a str },
+    Dtb {
+        file: &'a str,
+    },
     /// Whether the configuration in the first file is accepted on the hardware in the second.
-    Check { config: &'a str, hw: &'a str },
+    Check {
+        config: &'a str,
+        hw: &'a str,
+    },
+    /// The guest tree of the partition of that name, of a configuration that is accepted likewise.
+    Guest {
+        config: &'a str,
+        hw: &'a str,
+        name: &'a str,
+    },
 }

@@ -2,16 +2,20 @@
 //! are written.
 //!
 //! It stands on `outside` (files and sinks), `partition` (the machine), `dt_model`, `dt_read` and `dt_write` (blobs),
-//! and `hv_config`, `hv_read` and `config_rules` (configurations and hardware). Its contract is the main theorem: the status and the bytes written are those of `outcome`, in
-//! `specs/Outcome.antt`, and each other answer has its cause.
+//! `hv_config`, `hv_read` and `config_rules` (configurations and hardware), and `guest_tree`. Its contract is the main
+//! theorem: the status and the bytes written are those of `outcome`, in `specs/Outcome.antt`, and each other answer has
+//! its cause.
 #![tactic(auto)]
 
+mod accepting;
 mod bare;
 mod check;
 mod command;
 mod deliver;
 mod dtb;
 mod gathered;
+mod guest;
+mod laws;
 mod number;
 mod read;
 mod refuse;
@@ -22,6 +26,7 @@ mod top_call;
 mod words;
 mod world;
 
+pub use laws::described_partitions_are_joined;
 pub use status::Status;
 pub use top_call::topaz;
 

@@ -14,6 +14,7 @@ use crate::check::check;
 use crate::command::Command;
 use crate::deliver::deliver;
 use crate::dtb::dtb;
+use crate::guest::guest;
 use crate::status::{Status, Stop};
 use crate::words::command;
 use outside::{Bytes, Failed, Files, Sink};
@@ -74,6 +75,7 @@ fn answer<F: Files>(alloc: Global, command: Command<'_>, files: &mut F) -> Resul
         Command::Bare { image, turns } => bare(alloc, files, image, turns),
         Command::Dtb { file } => dtb(alloc, files, file),
         Command::Check { config, hw } => check(alloc, files, config, hw),
+        Command::Guest { config, hw, name } => guest(alloc, files, config, hw, name),
     }
 }
 

@@ -28,6 +28,11 @@ pub fn command<'a>(words: &'a [String]) -> Option<Command<'a>>
             config: config.as_str(),
             hw: hw.as_str(),
         }),
+        [verb, config, hw, name] if verb.as_str() == "guest" => Some(Command::Guest {
+            config: config.as_str(),
+            hw: hw.as_str(),
+            name: name.as_str(),
+        }),
         [verb, file] if verb.as_str() == "dtb" => Some(Command::Dtb {
             file: file.as_str(),
         }),

@@ -1,25 +1,30 @@
-use Rattle.std.proofs.Common.{ℕ, List, IfSome, subst}
+use Rattle.std.proofs.Common.{Err, subst, sym, ap, ◌∙◌}
 use Rattle.std.specs.Prelude.{Contains}
 use Rattle.std.proofs.lemmas.Result.{err_from_is_err_and}
-use Rattle.hv_read.specs.Read.{config_flaw}
-use Rattle.topaz_run.specs.Plan.{Plan, needs_of}
-use Rattle.topaz_run.specs.Outcome.{configured}
-use Rattle.topaz_run.proofs.Plans.{ends_early}
-use Rattle.topaz_run.proofs.Checks.{needs_through}
+use Rattle.hv_config.specs.declared.config.Config.{Config}
+use Rattle.topaz_run.specs.declared.status.Stop.TheVariants as stop
+use Rattle.topaz_run.specs.Plan.{Ends, outcome_of, needs_of}
+use Rattle.topaz_run.specs.Outcome.{numbers, accepting}
+use Rattle.topaz_run.specs.Answers.{Meets, Stops}
+use Rattle.topaz_run.proofs.GoingOn.{Next, for_one, meets_accepted, one_fault}
 use Rattle.topaz_run.proofs.check.check.Goals as goal
 
-pub returns-in_err-bytes-clause-answer : goal.returns-in_err-bytes-clause-answer
-returns-in_err-bytes-clause-answer g c =
+pub returns-in_err-accepted-clause-answer : goal.returns-in_err-accepted-clause-answer
+returns-in_err-accepted-clause-answer g c =
     let p = err_from_is_err_and c.from_residual.result c.from_residual.ensures.1 in
-    let next : List ℕ → Plan = λ bytes. configured c.args.config.now c.args.hw.now bytes (config_flaw bytes) in
-    rw (p.1, p.2) (ends_early (g.F.Files.content c.args.files.now) c.args.config.now c.args.config.now next c.in_err-bytes.field-0.0 c.in_err-bytes.ensures.stopped)
+    let next : Next = λ said. Ends (numbers said) in
+    let s = c.in_err-accepted.field-0.0 in
+    rw (p.1, p.2) (for_one (g.F.Files.content c.args.files.now) (λ content next. Stops s (outcome_of content (accepting c.args.config.now c.args.hw.now next))) next c.in_err-accepted.ensures.stopped)
 
-pub returns-clause-needed : goal.returns-clause-needed
-returns-clause-needed g c = λ fault.
-    let config = c.args.config.now in
-    let hw = c.args.hw.now in
-    let next : List ℕ → Plan = λ bytes. configured config hw bytes (config_flaw bytes) in
-    let blamed = g.F.Files.blamed c.check_config.new.files in
-    let known = g.F.Files.content c.read_file.new.files in
-    let needed = subst (λ (bytes : List ℕ). IfSome known (λ content. Contains (needs_of content (configured config hw bytes (config_flaw bytes))) blamed)) c.as_slice.ensures (c.check_config.ensures.needed fault) in
-    needs_through (g.F.Files.content c.args.files.now) known config config c.in_ok-bytes.bytes next blamed c.in_ok-bytes.ensures.content c.in_ok-bytes.ensures.read needed
+pub returns-in_err-accepted-clause-needed : goal.returns-in_err-accepted-clause-needed
+returns-in_err-accepted-clause-needed g c = λ fault.
+    let p = err_from_is_err_and c.from_residual.result c.from_residual.ensures.1 in
+    let same = sym p.2 ∙ one_fault c.from_residual.result p.0 stop.ReadFault p.1 fault in
+    let next : Next = λ said. Ends (numbers said) in
+    let blamed = g.F.Files.blamed c.read_accepted.new.files in
+    for_one (g.F.Files.content c.args.files.now) (λ content next. Contains (needs_of content (accepting c.args.config.now c.args.hw.now next)) blamed) next (c.in_err-accepted.ensures.needed (ap Err same))
+
+pub returns-clause-answer : goal.returns-clause-answer
+returns-clause-answer g c =
+    meets_accepted (g.F.Files.content c.args.files.now) c.args.config.now c.args.hw.now c.in_ok-accepted.accepted numbers c.numbers.result c.in_ok-accepted.ensures.goes_on
+    (subst (λ (said : Config). Meets c.numbers.result (numbers said)) c.config.ensures.value c.numbers.ensures.answer)
