@@ -43,15 +43,15 @@ header_of file = record {
 
 -- Not of 32 bits, the highest byte first, an executable or a shared object, for PowerPC, with program headers of this size and few
 -- enough of them.
-unfoldable pub is_of_others : Header → Bool
-is_of_others header =
+unfoldable pub is_for_others : Header → Bool
+is_for_others header =
     not (header.class == 1) || not (header.order == 2) || not (header.kind == 2 || header.kind == 3) || not (header.machine == 20)
     || not (header.row_size == row_size) || header.count == 0 || nat_lt most_rows header.count
 
 -- an ELF file whose header is cut or says that it is for others
 abbrev pub is_bad_elf : List ℕ → Bool
-is_bad_elf file = nat_lt (length file) header_size || is_of_others (header_of file)
+is_bad_elf file = nat_lt (length file) header_size || is_for_others (header_of file)
 
 -- I1: no image for the machine
-abbrev pub is_foreign : List ℕ → Bool
-is_foreign file = is_packed file || (is_elf file && is_bad_elf file)
+abbrev pub is_no_image : List ℕ → Bool
+is_no_image file = is_packed file || (is_elf file && is_bad_elf file)

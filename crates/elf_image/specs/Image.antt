@@ -6,8 +6,8 @@ use Rattle.elf_image.specs.declared.fault.ImageFault.TheVariants.{Rule, NoMemory
 use Rattle.elf_image.specs.declared.image.Image.{Image}
 use Rattle.elf_image.specs.declared.image.PlanPiece.{PlanPiece}
 use Rattle.elf_image.specs.declared.segment.Segment.{Segment}
-use Rattle.elf_image.specs.Header.{is_elf, is_foreign, header_of}
-use Rattle.elf_image.specs.Segment.{is_load, is_torn, segments_of}
+use Rattle.elf_image.specs.Header.{is_elf, is_no_image, header_of}
+use Rattle.elf_image.specs.Segment.{is_load, is_inconsistent, segments_of}
 
 -- ---- the entry
 
@@ -61,11 +61,11 @@ image_of file raw_at = if is_elf file then elf_image file else raw_image (length
 
 -- the first rule that the segments of an ELF file break
 unfoldable pub segments_fault : List ℕ → Option ℕ
-segments_fault file = if is_torn file then Some 2 else if lacks_entry file then Some 3 else None
+segments_fault file = if is_inconsistent file then Some 2 else if lacks_entry file then Some 3 else None
 
 -- the least rule that the file breaks
 unfoldable pub first_fault : List ℕ → Option ℕ
-first_fault file = if is_foreign file then Some 1 else if is_elf file then segments_fault file else None
+first_fault file = if is_no_image file then Some 1 else if is_elf file then segments_fault file else None
 
 -- the fault says which rule is broken first; want of memory says nothing
 abbrev pub Says : ImageFault → Option ℕ → Type 0

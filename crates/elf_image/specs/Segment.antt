@@ -34,15 +34,15 @@ abbrev pub is_load : Segment → Bool
 is_load segment = segment.kind == 1
 
 -- it is loaded, and has bytes outside a file of this size, or more bytes of the file than there are in all
-unfoldable pub is_misplaced : ℕ → Segment → Bool
-is_misplaced size segment =
+unfoldable pub is_bad_segment : ℕ → Segment → Bool
+is_bad_segment size segment =
     is_load segment
     && ((nat_lt 0 segment.len && nat_lt size (segment.from + segment.len)) || nat_lt segment.total segment.len)
 
 -- the table ends behind a file of this size
-unfoldable pub is_cut : ℕ → Header → Bool
-is_cut size header = nat_lt size (header.table_at + row_size * header.count)
+unfoldable pub is_table_outside : ℕ → Header → Bool
+is_table_outside size header = nat_lt size (header.table_at + row_size * header.count)
 
 -- I2: the table or a segment doesn't fit the file
-unfoldable pub is_torn : List ℕ → Bool
-is_torn file = is_cut (length file) (header_of file) || list_any (is_misplaced (length file)) (segments_of file)
+unfoldable pub is_inconsistent : List ℕ → Bool
+is_inconsistent file = is_table_outside (length file) (header_of file) || list_any (is_bad_segment (length file)) (segments_of file)

@@ -86,9 +86,9 @@ pub fn header_of(file: &[u8]) -> Header
 }
 
 /// Whether the header isn't that of an image for the machine.
-#[tactic(auto, unfolding(crate::specs::Header::is_of_others))]
-pub fn is_of_others(header: &Header) -> bool
-    ensures { result ≡ spec.is_of_others header.now }
+#[tactic(auto, unfolding(crate::specs::Header::is_for_others))]
+pub fn is_for_others(header: &Header) -> bool
+    ensures { result ≡ spec.is_for_others header.now }
 {
     header.class != 1
         || header.order != 2

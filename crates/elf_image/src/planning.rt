@@ -9,9 +9,9 @@ ghost use Rattle.elf_image.specs.Piece.{piece_limit, is_piece_of, AreOf};
 ghost use Rattle.elf_image.specs.Image as spec;
 
 use crate::fault::ImageFault;
-use crate::header::{HEADER_SIZE, header_of, is_elf, is_of_others, is_packed};
+use crate::header::{HEADER_SIZE, header_of, is_elf, is_for_others, is_packed};
 use crate::image::{Image, PlanPiece};
-use crate::segment::{Segment, is_any_misplaced, is_cut, segments_in};
+use crate::segment::{Segment, is_any_segment_bad, is_table_outside, segments_in};
 use outside::{Listed, NoMemory};
 use std::alloc::Global;
 
@@ -59,7 +59,7 @@ fn has_bytes(segment: &Segment) -> bool
 /// The piece that the segment is, in a file of this size.
 fn piece_of(size: usize, segment: &Segment) -> PlanPiece
     requires load { segment_spec.is_load segment.now ≡ true }
-    requires placed { segment_spec.is_misplaced size segment.now ≡ false }
+    requires placed { segment_spec.is_bad_segment size segment.now ≡ false }
     ensures value { result ≡ spec.piece_of segment.now }
     ensures fits { is_piece_of size result ≡ true }
 {
@@ -78,7 +78,7 @@ fn pieces_in(
     size: usize,
     segments: &[Segment],
 ) -> Result<Listed<PlanPiece>, NoMemory>
-    requires { list_any (segment_spec.is_misplaced size) segments.now ≡ false }
+    requires { list_any (segment_spec.is_bad_segment size) segments.now ≡ false }
     ensures value { IfOk result (λ pieces. pieces ≡ spec.pieces_in segments.now) }
     ensures fits { IfOk result (λ pieces. AreOf size pieces) }
 {
@@ -92,7 +92,7 @@ fn pieces_in(
 }
 
 /// The image that the segments of an ELF file are.
-#[tactic(auto, unfolding(crate::specs::Image::elf_image, crate::specs::Image::entry_of, crate::specs::Image::segments_fault, crate::specs::Segment::segments_of, crate::specs::Segment::is_torn))]
+#[tactic(auto, unfolding(crate::specs::Image::elf_image, crate::specs::Image::entry_of, crate::specs::Image::segments_fault, crate::specs::Segment::segments_of, crate::specs::Segment::is_inconsistent))]
 fn elf_image(alloc: Global, file: &[u8]) -> Result<Image, ImageFault>
     requires { 52 ≤ length file.now }
     ensures kept { OnOk result (spec.segments_fault file.now ≡ None) }
@@ -101,11 +101,11 @@ fn elf_image(alloc: Global, file: &[u8]) -> Result<Image, ImageFault>
     ensures fits { IfOk result (λ image. AreOf (length file.now) image.pieces) }
 {
     let header = header_of(file);
-    if is_cut(file.len(), &header) {
+    if is_table_outside(file.len(), &header) {
         return Err(ImageFault::Rule(2));
     }
     let segments = segments_in(alloc, file, &header)?;
-    if is_any_misplaced(file.len(), &segments) {
+    if is_any_segment_bad(file.len(), &segments) {
         return Err(ImageFault::Rule(2));
     }
     match physical_in(header.entry, &segments) {
@@ -137,7 +137,7 @@ fn raw_image(alloc: Global, size: usize, at: u64) -> Result<Image, NoMemory>
 fn is_bad_elf(file: &[u8]) -> bool
     ensures { result ≡ header_spec.is_bad_elf file.now }
 {
-    file.len() < HEADER_SIZE || is_of_others(&header_of(file))
+    file.len() < HEADER_SIZE || is_for_others(&header_of(file))
 }
 
 /// What the file of an image says. An ELF file (System V ABI, chapters 4 and 5) says its pieces and its entry, at

@@ -60,9 +60,9 @@ fn segment_at(file: &[u8], table_at: usize, number: usize) -> Segment
 }
 
 /// Whether the table ends behind a file of this size.
-#[tactic(auto, unfolding(crate::specs::Segment::is_cut))]
-pub fn is_cut(size: usize, header: &Header) -> bool
-    ensures value { result ≡ spec.is_cut size header.now }
+#[tactic(auto, unfolding(crate::specs::Segment::is_table_outside))]
+pub fn is_table_outside(size: usize, header: &Header) -> bool
+    ensures value { result ≡ spec.is_table_outside size header.now }
     ensures within { OnFalse result (header.now.table_at + 32 * header.now.count ≤ size) }
 {
     (size as u64) < u64::from(header.table_at) + ROW_SIZE as u64 * u64::from(header.count)
@@ -82,17 +82,17 @@ pub fn segments_in(alloc: Global, file: &[u8], header: &Header) -> Result<Vec<Se
 }
 
 /// Whether it is loaded and doesn't fit a file of this size.
-#[tactic(auto, unfolding(crate::specs::Segment::is_misplaced))]
-fn is_misplaced(size: usize, segment: &Segment) -> bool
-    ensures { result ≡ spec.is_misplaced size segment.now }
+#[tactic(auto, unfolding(crate::specs::Segment::is_bad_segment))]
+fn is_bad_segment(size: usize, segment: &Segment) -> bool
+    ensures { result ≡ spec.is_bad_segment size segment.now }
 {
     let end = u64::from(segment.from) + u64::from(segment.len);
     segment.is_load() && ((segment.len > 0 && (size as u64) < end) || segment.total < segment.len)
 }
 
 /// Whether one of them is loaded and doesn't fit a file of this size.
-pub fn is_any_misplaced(size: usize, segments: &[Segment]) -> bool
-    ensures { result ≡ list_any (spec.is_misplaced size) segments.now }
+pub fn is_any_segment_bad(size: usize, segments: &[Segment]) -> bool
+    ensures { result ≡ list_any (spec.is_bad_segment size) segments.now }
 {
-    segments.iter().any(|segment| is_misplaced(size, segment))
+    segments.iter().any(|segment| is_bad_segment(size, segment))
 }

@@ -14,7 +14,7 @@ use Rattle.memory_areas.proofs.Found.{all_at, all_in_range}
 use Rattle.memory_areas.proofs.Places.{has_both, private_bytes_are_in_regions}
 use Rattle.elf_image.specs.declared.image.Image.{Image}
 use Rattle.elf_image.specs.declared.image.PlanPiece.{PlanPiece}
-use Rattle.fresh_load.specs.Described.{image_piece, tree_piece, spin_piece, spin_pieces, pieces_of, described, is_misplaced, is_lost, is_long, is_over_window, spin_share, first_fault}
+use Rattle.fresh_load.specs.Described.{image_piece, tree_piece, spin_piece, spin_pieces, pieces_of, described, is_not_private, is_bad_entry, is_too_long, is_in_window, spin_bytes, first_fault}
 
 -- what holds of a sound description
 pub record HasParts (desc : Desc) : Type 0 where
@@ -81,12 +81,12 @@ four_kept false false true d h = absurd cc
 four_kept false false false true h = absurd cc
 four_kept false false false false h = (refl, refl, refl, refl)
 
-none_misplaced : (regions : List Region) (plan : List PlanPiece) → list_any (is_misplaced regions) plan ≡ false
+all_private : (regions : List Region) (plan : List PlanPiece) → list_any (is_not_private regions) plan ≡ false
     → list_all (λ (piece : PlanPiece). is_private_range regions piece.at piece.total) plan ≡ true
-none_misplaced regions [] h = refl
-none_misplaced regions (piece ∷ plan) h =
-    let parts = or_parts (is_misplaced regions piece) (list_any (is_misplaced regions) plan) h in
-    and_from _ _ (not-false _ parts.0) (none_misplaced regions plan parts.1)
+all_private regions [] h = refl
+all_private regions (piece ∷ plan) h =
+    let parts = or_parts (is_not_private regions piece) (list_any (is_not_private regions) plan) h in
+    and_from _ _ (not-false _ parts.0) (all_private regions plan parts.1)
 
 -- the front of a range passes where the range does
 front_passes : (test : ℕ → Bool) (at count size : ℕ) → count ≤ size → list_all test (range_with_len at size) ≡ true → list_all test (range_with_len at count) ≡ true
@@ -112,16 +112,16 @@ spins_private base h =
     list_all-map (is_private_piece base.regions) (spin_piece base) (range_with_len 1 (length base.cores - 1))
     ∙ latter_pass _ (λ (core : ℕ). is_private_range base.regions (spin_at base core) spin_size) (range_with_len 1 (length base.cores - 1)) h
 
-pieces_private : (base : Desc) (file : List ℕ) (plan : List PlanPiece) (tree : List ℕ) → list_any (is_misplaced base.regions) plan ≡ false → length tree ≤ base.tree_size
+pieces_private : (base : Desc) (file : List ℕ) (plan : List PlanPiece) (tree : List ℕ) → list_any (is_not_private base.regions) plan ≡ false → length tree ≤ base.tree_size
     → is_private_range base.regions base.tree_at base.tree_size ≡ true → are_spin_entries_private base ≡ true → list_all (is_private_piece base.regions) (pieces_of base file plan tree) ≡ true
 unfolding pieces_of
 pieces_private base file plan tree image short window spins =
     list_all-append (is_private_piece base.regions) (map (image_piece file) plan) (tree_piece base tree ∷ spin_pieces base)
     ∙ and_from _ _
-    (list_all-map (is_private_piece base.regions) (image_piece file) plan ∙ none_misplaced base.regions plan image)
+    (list_all-map (is_private_piece base.regions) (image_piece file) plan ∙ all_private base.regions plan image)
     (and_from _ _ (front_private base.regions base.tree_at (length tree) base.tree_size short window) (spins_private base spins))
 
-entry_parts : (regions : List Region) (entry : ℕ) → is_lost regions entry ≡ false → (entry % 4 == 0 ≡ true) × (nat_lt entry mapped_end ≡ true)
+entry_parts : (regions : List Region) (entry : ℕ) → is_bad_entry regions entry ≡ false → (entry % 4 == 0 ≡ true) × (nat_lt entry mapped_end ≡ true)
 entry_parts regions entry h =
     let whole : (entry % 4 == 0 && nat_lt entry mapped_end && is_private_range regions entry 1) ≡ true = not-false _ h in
     let front = and_parts (entry % 4 == 0 && nat_lt entry mapped_end) (is_private_range regions entry 1) whole in
@@ -137,7 +137,7 @@ tree_mapped desc h =
 pub entry_small : (base : Desc) (image : Image) (tree : List ℕ) → first_fault base image tree ≡ None → image.entry < 2 ^ 32
 unfolding first_fault
 entry_small base image tree kept =
-    let four = four_kept (list_any (is_misplaced base.regions) image.pieces) (is_lost base.regions image.entry) (is_long base tree) (list_any (is_over_window base) image.pieces) kept in
+    let four = four_kept (list_any (is_not_private base.regions) image.pieces) (is_bad_entry base.regions image.entry) (is_too_long base tree) (list_any (is_in_window base) image.pieces) kept in
     let below : image.entry < mapped_end = ltb-true image.entry mapped_end (entry_parts base.regions image.entry four.1).1 in
     omega arith
 
@@ -147,8 +147,8 @@ pub startable : (base : Desc) (file : List ℕ) (image : Image) (tree : List ℕ
 unfolding is_sound described are_counts_kept is_start_mapped are_spin_entries_private has_private_spin_entry first_fault
 startable base file image tree sound kept window =
     let parts = sound_parts base sound in
-    let four = four_kept (list_any (is_misplaced base.regions) image.pieces) (is_lost base.regions image.entry) (is_long base tree) (list_any (is_over_window base) image.pieces) kept in
-    let short : length tree + spin_share base ≤ base.tree_size = ltb-false _ _ four.2 in
+    let four = four_kept (list_any (is_not_private base.regions) image.pieces) (is_bad_entry base.regions image.entry) (is_too_long base tree) (list_any (is_in_window base) image.pieces) kept in
+    let short : length tree + spin_bytes base ≤ base.tree_size = ltb-false _ _ four.2 in
     let pieces = pieces_private base file image.pieces tree four.0 (omega arith) window parts.spins in
     let entry = entry_parts base.regions image.entry four.1 in
     let start : is_start_mapped (described base file image tree) ≡ true = and_from (nat_lt base.tree_at mapped_end && nat_lt image.entry mapped_end) (image.entry % 4 == 0)

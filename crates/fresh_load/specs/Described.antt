@@ -57,31 +57,31 @@ described base file image tree = record {
 -- ---- what is refused
 
 -- I4: some byte of the piece isn't private
-abbrev pub is_misplaced : List Region → PlanPiece → Bool
-is_misplaced regions piece = not (is_private_range regions piece.at piece.total)
+abbrev pub is_not_private : List Region → PlanPiece → Bool
+is_not_private regions piece = not (is_private_range regions piece.at piece.total)
 
 -- I5: the first instruction isn't at a multiple of 4, isn't mapped as the partition starts, or isn't private
-abbrev pub is_lost : List Region → ℕ → Bool
-is_lost regions entry = not (entry % 4 == 0 && nat_lt entry mapped_end && is_private_range regions entry 1)
+abbrev pub is_bad_entry : List Region → ℕ → Bool
+is_bad_entry regions entry = not (entry % 4 == 0 && nat_lt entry mapped_end && is_private_range regions entry 1)
 
 -- bytes of the window that aren't for the tree: those of the spin entries, where there are any
-abbrev pub spin_share : Desc → ℕ
-spin_share base = cond (nat_lt 1 (length base.cores)) spin_room 0
+abbrev pub spin_bytes : Desc → ℕ
+spin_bytes base = cond (nat_lt 1 (length base.cores)) spin_room 0
 
 -- I6: the window has too few bytes for the tree
-abbrev pub is_long : Desc → List ℕ → Bool
-is_long base tree = nat_lt base.tree_size (length tree + spin_share base)
+abbrev pub is_too_long : Desc → List ℕ → Bool
+is_too_long base tree = nat_lt base.tree_size (length tree + spin_bytes base)
 
 -- I7: some byte of the piece is in the window; a piece without bytes has none there
-abbrev pub is_over_window : Desc → PlanPiece → Bool
-is_over_window base piece = ranges_meet piece.at piece.total base.tree_at base.tree_size
+abbrev pub is_in_window : Desc → PlanPiece → Bool
+is_in_window base piece = ranges_meet piece.at piece.total base.tree_at base.tree_size
 
 -- the least of the rules I4 to I7 that is broken
 unfoldable pub first_fault : Desc → Image → List ℕ → Option ℕ
 first_fault base image tree =
-    cond (list_any (is_misplaced base.regions) image.pieces) (Some 4)
-    (cond (is_lost base.regions image.entry) (Some 5)
-    (cond (is_long base tree) (Some 6) (cond (list_any (is_over_window base) image.pieces) (Some 7) None)))
+    cond (list_any (is_not_private base.regions) image.pieces) (Some 4)
+    (cond (is_bad_entry base.regions image.entry) (Some 5)
+    (cond (is_too_long base tree) (Some 6) (cond (list_any (is_in_window base) image.pieces) (Some 7) None)))
 
 -- Where the fault is a rule's, it is this one's. Want of memory says nothing.
 abbrev pub Says : ImageFault → Option ℕ → Type 0

@@ -9,8 +9,8 @@ use elf_image::{Image, PlanPiece};
 use machine_desc::{Desc, Region, is_private_range, ranges_meet};
 
 /// Whether some piece isn't private.
-fn is_any_misplaced(regions: &[Region], pieces: &[PlanPiece]) -> bool
-    ensures { result ≡ list_any (spec.is_misplaced regions.now) pieces.now }
+fn is_any_not_private(regions: &[Region], pieces: &[PlanPiece]) -> bool
+    ensures { result ≡ list_any (spec.is_not_private regions.now) pieces.now }
 {
     pieces
         .iter()
@@ -18,15 +18,15 @@ fn is_any_misplaced(regions: &[Region], pieces: &[PlanPiece]) -> bool
 }
 
 /// Whether a partition can't start there.
-fn is_lost(regions: &[Region], entry: u64) -> bool
-    ensures { result ≡ spec.is_lost regions.now entry }
+fn is_bad_entry(regions: &[Region], entry: u64) -> bool
+    ensures { result ≡ spec.is_bad_entry regions.now entry }
 {
     !(entry % 4 == 0 && entry < MAPPED_END && is_private_range(regions, entry, 1))
 }
 
 /// How many bytes of the window aren't for the tree.
-fn spin_share(base: &Desc) -> u128
-    ensures { result ≡ spec.spin_share base.now }
+fn spin_bytes(base: &Desc) -> u128
+    ensures { result ≡ spec.spin_bytes base.now }
 {
     if base.cores.as_slice().len() > 1 {
         SPIN_ROOM
@@ -36,15 +36,15 @@ fn spin_share(base: &Desc) -> u128
 }
 
 /// Whether the window has too few bytes for the tree.
-fn is_long(base: &Desc, tree: &[u8]) -> bool
-    ensures { result ≡ spec.is_long base.now tree.now }
+fn is_too_long(base: &Desc, tree: &[u8]) -> bool
+    ensures { result ≡ spec.is_too_long base.now tree.now }
 {
-    u128::from(base.tree_size) < tree.len() as u128 + spin_share(base)
+    u128::from(base.tree_size) < tree.len() as u128 + spin_bytes(base)
 }
 
 /// Whether some piece has a byte in the window.
-fn is_any_over_window(base: &Desc, pieces: &[PlanPiece]) -> bool
-    ensures { result ≡ list_any (spec.is_over_window base.now) pieces.now }
+fn is_any_in_window(base: &Desc, pieces: &[PlanPiece]) -> bool
+    ensures { result ≡ list_any (spec.is_in_window base.now) pieces.now }
 {
     pieces.iter().any(|piece| ranges_meet(piece.at, piece.total, base.tree_at, base.tree_size))
 }
@@ -56,13 +56,13 @@ pub fn first_fault(base: &Desc, image: &Image, tree: &[u8]) -> Option<u8>
 {
     let regions = base.regions.as_slice();
     let pieces = image.pieces.as_slice();
-    if is_any_misplaced(regions, pieces) {
+    if is_any_not_private(regions, pieces) {
         Some(4)
-    } else if is_lost(regions, image.entry) {
+    } else if is_bad_entry(regions, image.entry) {
         Some(5)
-    } else if is_long(base, tree) {
+    } else if is_too_long(base, tree) {
         Some(6)
-    } else if is_any_over_window(base, pieces) {
+    } else if is_any_in_window(base, pieces) {
         Some(7)
     } else {
         None

@@ -9,7 +9,7 @@ use Rattle.dt_model.specs.Canonical.{blob_saying}
 use Rattle.guest_tree.specs.Tokens.{guest_tokens}
 use Rattle.guest_tree.specs.Rows.{guest_rows}
 
--- The window of the device tree has room for spin entries, and ends where the mapped area does.
+-- The window for the device tree has room for spin entries, and lies in what is mapped as the partition starts.
 pub record HasSpinRoom (part : PartDef) : Type 0 where
   pub room : spin_room ≤ part.tree_size
   pub mapped : part.tree_at + part.tree_size ≤ mapped_end
