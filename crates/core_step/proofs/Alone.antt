@@ -58,7 +58,7 @@ pub or_fault : (P : Place → Type 0) (b : Bool) (fault : Fault) (r : Result Pla
 or_fault P true fault r h = tt
 or_fault P false fault r h = h
 
-known : (names : List ℕ) (permission : ℕ) (part : Part) (page : Option Page) → IfSome page (λ page. page.extent < length names) → IfOk (place_or_fault permission part page) (IsKnown names)
+pub known : (names : List ℕ) (permission : ℕ) (part : Part) (page : Option Page) → IfSome page (λ page. page.extent < length names) → IfOk (place_or_fault permission part page) (IsKnown names)
 unfolding place_or_fault place_in
 known names permission part None h = tt
 known names permission part (Some page) h = or_fault _ (not (allows page permission)) _ _ (or_fault _ page.little _ _ h)
@@ -84,7 +84,7 @@ all_found names regions extents same permission (part ∷ parts) =
     ∙ ap (λ (r : Result (List Place) Fault). before (found_to names (place_or_fault permission part (regions part.ea))) r) tail
     ∙ before_to names (place_or_fault permission part (regions part.ea)) (places_or_fault regions permission parts)
 
-all_known : (names : List ℕ) (regions : ℕ → Option Page) → ((ea : ℕ) → IfSome (regions ea) (λ page. page.extent < length names)) → (permission : ℕ) (parts : List Part)
+pub all_known : (names : List ℕ) (regions : ℕ → Option Page) → ((ea : ℕ) → IfSome (regions ea) (λ page. page.extent < length names)) → (permission : ℕ) (parts : List Part)
     → IfOk (places_or_fault regions permission parts) (AreKnown names)
 all_known names regions h permission [] = tt
 all_known names regions h permission (part ∷ parts) =

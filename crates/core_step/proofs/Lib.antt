@@ -4,6 +4,7 @@ pub mod Stay
 pub mod Unchanged
 pub mod Own
 pub mod Alone
+pub mod Ranges
 pub mod Tries
 pub mod Few
 pub mod Alikes

@@ -1,5 +1,5 @@
 -- One instruction over the extents of a larger memory that belong to one partition.
-use Rattle.std.specs.Prelude.{◌≡◌, ℕ, ◌<◌, Bool, List, length, map, Option, Some, None, IfSome}
+use Rattle.std.specs.Prelude.{◌≡◌, ℕ, ◌<◌, Bool, List, [], ◌∷◌, length, map, Option, Some, None, IfSome}
 use Rattle.guest_regs.specs.Registers.{Registers}
 use Rattle.ground.specs.Own.{name_of, own_of, AreExtents, KeepsForeign}
 use Rattle.core_step.specs.declared.answer.Wrote.{Wrote}
@@ -42,3 +42,19 @@ abbrev pub StaysBacked : Type 0
 StaysBacked =
     (names : List ℕ) (memory : List (List ℕ)) (regions extents : Lookup) → AreExtents names memory → IsNamed names regions extents
     → AreBacked (own_of names memory) regions → AreBacked memory extents
+
+-- Each of the ranges lies in one of so many extents.
+abbrev pub AreBelow : ℕ → List Wrote → Type 0
+AreBelow count [] = Unit {0}
+AreBelow count (range ∷ ranges) = (range.extent < count) × AreBelow count ranges
+
+abbrev pub WritesBelow : ℕ → Answer → Type 0
+WritesBelow count (Retired ranges) = AreBelow count ranges
+WritesBelow count _ = Unit {0}
+
+-- An instruction writes into extents that its pages lie in.
+abbrev pub WritesIntoPages : Type 0
+WritesIntoPages =
+    (names : List ℕ) (lookup : Lookup) (registers : Registers) (memory : List (List ℕ))
+    → ((space : Bool) (pid ea : ℕ) → IfSome (lookup space pid ea) (λ page. page.extent < length names))
+    → WritesBelow (length names) (stepped lookup registers memory).answer

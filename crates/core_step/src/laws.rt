@@ -1,11 +1,16 @@
 //! Laws of the definitions that no one call could state. Each is a function with nothing to do, whose contract is the law.
 
-ghost use Rattle.core_step.specs.Laws.{StaysBacked, StepsAlone};
+ghost use Rattle.core_step.specs.Laws.{StaysBacked, StepsAlone, WritesIntoPages};
 ghost use Rattle.core_step.specs.Touches.{TriesSettle, TouchesAreFew, TouchesAreFound, AlikeStepAlike};
 
 /// An instruction over extents of a larger memory does to them what it does to them alone, and leaves the others.
 pub fn steps_alone()
     ensures { StepsAlone }
+{}
+
+/// An instruction writes into extents that its pages lie in.
+pub fn writes_into_pages()
+    ensures { WritesIntoPages }
 {}
 
 /// Pages that have memory among a partition's own extents have it in the larger memory.

@@ -22,6 +22,7 @@ pub use answer::{Hw, Wrote};
 pub use cpu::Core;
 pub use laws::{
     alike_step_alike, stays_backed, steps_alone, touches_are_few, touches_are_found, tries_settle,
+    writes_into_pages,
 };
 pub use look::{Look, Page};
 
