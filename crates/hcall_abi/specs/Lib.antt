@@ -1,0 +1,5 @@
+pub mod Call
+pub mod Status
+pub mod Payload
+pub mod Reply
+pub mod Laws
