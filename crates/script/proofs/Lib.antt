@@ -1,0 +1,5 @@
+pub mod Parts
+pub mod Numerals
+pub mod Marks
+pub mod Places
+pub mod Keeping

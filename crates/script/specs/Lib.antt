@@ -1,0 +1,8 @@
+pub mod Text
+pub mod Form
+pub mod Meaning
+pub mod Course
+pub mod Kept
+pub mod Fault
+pub mod Steps
+pub mod Marked
