@@ -1,5 +1,5 @@
 -- The step that comes to a hypercall, and the steps that aren't built.
-use Rattle.std.proofs.Common.{◌≡◌, ◌≢◌, ℕ, Bool, true, false, cond, ◌&&◌, List, [], ◌∷◌, ◌↔◌, refl, sym, ap, subst, ◌∙◌}
+use Rattle.std.proofs.Common.{◌≡◌, ◌≢◌, ℕ, ◌==◌, Bool, true, false, cond, ◌&&◌, nat_lt, List, [], ◌∷◌, length, take, ◌↔◌, ◌⊎◌, inl, inr, refl, sym, ap, subst, ◌∙◌}
 use Rattle.guest_regs.specs.Registers.{Registers, gpr_of}
 use Rattle.core_step.specs.Step as core
 use Rattle.core_step.proofs.Unchanged.{kept}
@@ -7,195 +7,204 @@ use Rattle.trap_emulate.specs.declared.cause.Cause.{Cause}
 use Rattle.trap_emulate.specs.declared.cause.Cause.TheVariants as cause
 use Rattle.trap_emulate.specs.Clock.{is_decrementer_pending}
 use Rattle.trap_emulate.specs.Entry.{are_interrupts_enabled, may_enter}
-use Rattle.partition.specs.declared.call.Call.{Call}
-use Rattle.partition.specs.declared.call.Call.TheVariants as call
-use Rattle.partition.specs.declared.call.Status.{Status}
-use Rattle.partition.specs.declared.event.LoneStep.{LoneStep}
-use Rattle.partition.specs.declared.event.LoneStep.TheVariants as code
-use Rattle.partition.specs.Hypercall.{call_of}
-use Rattle.partition.specs.Machine.{Machine}
-use Rattle.partition.specs.Translated.{lookup, is_translated}
-use Rattle.partition.specs.Step.{Stepped, Act, Faulted, NotBuilt, quiet, not_built, sent, refused, sending, send, served, entered, checked, missed, privileged, handled, instruction, acted, begun, unless_unbuilt, step}
-use Rattle.partition.specs.Event.{act_of}
-use Rattle.partition.specs.Calling.{IsUnbuilt, service_of}
-use Rattle.partition.proofs.Steps.{woken_back}
+use Rattle.machine_desc.specs.declared.act.Act.{Act as Told}
+use Rattle.machine_desc.specs.declared.act.Act.TheVariants as told
+use Rattle.hcall_abi.specs.declared.call.Call.{Call}
+use Rattle.hcall_abi.specs.declared.call.Call.TheVariants as call
+use Rattle.hcall_abi.specs.declared.status.Status.{Status}
+use Rattle.hcall_abi.specs.declared.status.Status.TheVariants as status
+use Rattle.hcall_abi.specs.Call.{call_of}
+use Rattle.partition.specs.declared.found.Found.{Found}
+use Rattle.partition.specs.declared.found.Found.TheVariants.{Missing, Unbacked, Backed}
+use Rattle.partition.specs.declared.kind.Kind.{Kind}
+use Rattle.partition.specs.Channels.{Served, refusal, is_channel, is_bad_transfer, sending, receiving, polling, send, receive, poll}
+use Rattle.partition.specs.Found.{lookup}
+use Rattle.partition.specs.Port.{End, kind_at, end_at, room_at}
+use Rattle.partition.specs.Act.{Act, Nothing, Took, Faulted, NotBuilt, act_of, sent, took}
+use Rattle.partition.specs.Machine.{Cpu, Shape}
+use Rattle.partition.specs.Step.{Done, CoreStepped, quiet, served, entered, checked, missed, privileged, handled, still, instruction, acted, begun, core_step, with_registers, shared_ranges, written}
+use Rattle.partition.specs.Calling.{IsUnbuilt, is_built, service_of}
+use Rattle.partition.proofs.Steps.{core_whole, core_nothing, tells, woken_back}
 
--- a step whose act is built is what was done
-built-act : (act : Act) (done : Stepped) (before : Machine) → (act ≡ NotBuilt → ⊥) → unless_unbuilt act done before ≡ done
-built-act NotBuilt done before h = absurd (h refl)
-built-act _ done before h = refl
-
-unbuilt-act : (act : Act) (done : Stepped) (before : Machine) → act ≡ NotBuilt → (unless_unbuilt act done before).act ≡ NotBuilt
-unbuilt-act NotBuilt done before h = refl
-unbuilt-act _ done before h = absurd (cc)
-
-pub whole : (machine : Machine) → (step machine).act ≢ NotBuilt → step machine ≡ acted (begun machine)
-unfolding step
-whole machine built = built-act (acted (begun machine)).act (acted (begun machine)) machine (λ e. built (unbuilt-act _ (acted (begun machine)) machine e))
-
-on_false : (b : Bool) (x y : Stepped) → b ≡ false → cond b x y ≡ y
+on_false : (b : Bool) (x y : CoreStepped) → b ≡ false → cond b x y ≡ y
 on_false false x y h = refl
 on_false true x y h = absurd (cc)
 
-pub instructs : (machine : Machine) → (is_decrementer_pending machine.registers && are_interrupts_enabled machine.registers) ≡ false → machine.registers.idle ≡ false → acted machine ≡ instruction machine
+pub instructs : (shape : Shape) (cpu : Cpu) (ends : List End) (memory : List (List ℕ)) → (is_decrementer_pending cpu.registers && are_interrupts_enabled cpu.registers) ≡ false → cpu.registers.idle ≡ false
+    → acted shape cpu ends memory ≡ instruction shape cpu ends memory
 unfolding acted
-instructs machine undisturbed awake = on_false _ _ _ undisturbed ∙ on_false _ _ _ awake
+instructs shape cpu ends memory undisturbed awake = on_false _ _ _ undisturbed ∙ on_false _ _ _ awake
 
-pub hypercall : (machine : Machine) → (core.stepped (lookup machine.translations) machine.registers machine.memory).answer ≡ core.Hcall
-    → instruction machine ≡ served (call_of (gpr_of machine.registers 11)) machine
-unfolding instruction handled
-hypercall machine e =
-    let done : core.Stepped = core.stepped (lookup machine.translations) machine.registers machine.memory in
-    let stays : (done.registers ≡ machine.registers) × (done.memory ≡ machine.memory) =
-    subst (λ a. core.KeepsUnlessDone a machine.registers done.registers machine.memory done.memory) e (kept (lookup machine.translations) machine.registers machine.memory) in
-    ap (λ a. handled a (record machine { registers = done.registers; memory = done.memory })) e
-    ∙ ap (λ r. handled core.Hcall (record machine { registers = r; memory = done.memory })) stays.0
-    ∙ ap (λ m. handled core.Hcall (record machine { memory = m })) stays.1
+-- what an instruction leaves, by its answer
+by : Shape → List End → core.Answer → Cpu → List (List ℕ) → CoreStepped
+by shape ends answer cpu memory =
+    let done : Done = handled shape answer cpu ends in
+    record { cpu = done.cpu; memory = memory; act = done.act; stored = shared_ranges shape.areas (written answer) }
 
-pub general : (machine : Machine) → (begun machine).registers.gpr ≡ machine.registers.gpr
+pub hypercall : (shape : Shape) (cpu : Cpu) (ends : List End) (memory : List (List ℕ)) → (core.stepped (lookup shape.areas cpu.translations) cpu.registers memory).answer ≡ core.Hcall
+    → instruction shape cpu ends memory ≡ still (served shape.kinds (call_of (gpr_of cpu.registers 11)) cpu ends) memory
+unfolding instruction handled by
+hypercall shape cpu ends memory e =
+    let done : core.Stepped = core.stepped (lookup shape.areas cpu.translations) cpu.registers memory in
+    let stays : (done.registers ≡ cpu.registers) × (done.memory ≡ memory) =
+    subst (λ a. core.KeepsUnlessDone a cpu.registers done.registers memory done.memory) e (kept (lookup shape.areas cpu.translations) cpu.registers memory) in
+    let of = λ (answer : core.Answer) (registers : Registers) (bytes : List (List ℕ)). let d : CoreStepped = by shape ends answer (with_registers registers cpu) bytes in d in
+    ap (λ (a : core.Answer). of a done.registers done.memory) e ∙ ap (λ (r : Registers). of core.Hcall r done.memory) stays.0 ∙ ap (of core.Hcall cpu.registers) stays.1
+
+pub general : (cpu : Cpu) → (begun cpu).registers.gpr ≡ cpu.registers.gpr
 unfolding begun
-general machine = ap (λ (r : Registers). r.gpr) (woken_back machine.registers)
+general cpu = ap (λ (r : Registers). r.gpr) (woken_back cpu.registers)
 
 -- ---- what is built
 
--- the act of a step that is built
-record IsBuilt (done : Stepped) : Type 0 where
+-- an act that is built
+record IsBuilt (done : Done) : Type 0 where
   built : done.act ≢ NotBuilt
 
-built_either : (b : Bool) (one other : Stepped) → IsBuilt one → IsBuilt other → IsBuilt (cond b one other)
-built_either true one other h k = h
-built_either false one other h k = k
+either : (b : Bool) (one other : Done) → IsBuilt one → IsBuilt other → IsBuilt (cond b one other)
+either true one other h k = h
+either false one other h k = k
 
-quiet_built : (machine : Machine) → IsBuilt (quiet machine)
-quiet_built machine = record { built = λ e. absurd (cc) }
+quiet_built : (cpu : Cpu) → IsBuilt (quiet cpu)
+quiet_built cpu = record { built = λ e. absurd (cc) }
 
 sent_built : (handle : ℕ) (bytes : List ℕ) → sent handle bytes ≢ NotBuilt
 sent_built handle [] = λ e. absurd (cc)
 sent_built handle (byte ∷ bytes) = λ e. absurd (cc)
 
-refused_built : (s : Status) (machine : Machine) → IsBuilt (refused s machine)
-unfolding refused
-refused_built s machine = record { built = λ e. absurd (cc) }
+took_built : (handle count : ℕ) → took handle count ≢ NotBuilt
+took_built handle count = by_zero (count == 0)
+  where
+    by_zero : (b : Bool) → cond b Nothing (Took handle count) ≢ NotBuilt
+    by_zero true = λ e. absurd (cc)
+    by_zero false = λ e. absurd (cc)
 
-sending_built : (s : Status) (handle count : ℕ) (machine : Machine) → IsBuilt (sending s handle count machine)
-unfolding sending
-sending_built s handle count machine = record { built = sent_built handle _ }
+-- what a hypercall answers is built
+record IsServed (it : Served) : Type 0 where
+  act : it.act ≢ NotBuilt
 
-send_built : (machine : Machine) → IsBuilt (send machine)
+served_either : (b : Bool) (one other : Served) → IsServed one → IsServed other → IsServed (cond b one other)
+served_either true one other h k = h
+served_either false one other h k = k
+
+refusal_served : (s : Status) → IsServed (refusal s)
+refusal_served s = record { act = λ e. absurd (cc) }
+
+send_served : (kinds : List Kind) (registers : Registers) (ends : List End) → IsServed (send kinds registers ends)
 unfolding send
-send_built machine =
-    built_either _ _ _ (refused_built _ machine) (built_either _ _ _ (sending_built _ _ _ machine) (sending_built _ _ _ machine))
+send_served kinds registers ends =
+    let handle = gpr_of registers 3 in
+    let count = gpr_of registers 4 in
+    let room = room_at ends handle in
+    served_either (is_bad_transfer kinds registers) (refusal status.InvalidArgument) (cond (nat_lt room count) (sending status.TryAgain handle room registers) (sending status.Success handle count registers)) (refusal_served status.InvalidArgument)
+    (served_either (nat_lt room count) (sending status.TryAgain handle room registers) (sending status.Success handle count registers) (record { act = sent_built handle _ }) (record { act = sent_built handle _ }))
 
-checked_built : (machine : Machine) → IsBuilt (checked machine)
+receive_served : (kinds : List Kind) (registers : Registers) (ends : List End) → IsServed (receive kinds registers ends)
+unfolding receive
+receive_served kinds registers ends =
+    let handle = gpr_of registers 3 in
+    let bytes = take (gpr_of registers 4) (end_at ends handle).received in
+    served_either (is_bad_transfer kinds registers) (refusal status.InvalidArgument) (receiving handle bytes) (refusal_served status.InvalidArgument) (record { act = took_built handle (length bytes) })
+
+poll_served : (kinds : List Kind) (registers : Registers) (ends : List End) → IsServed (poll kinds registers ends)
+unfolding poll
+poll_served kinds registers ends =
+    served_either (is_channel (kind_at kinds (gpr_of registers 3))) (polling ends (gpr_of registers 3)) (refusal status.InvalidArgument) (record { act = λ e. absurd (cc) }) (refusal_served status.InvalidArgument)
+
+checked_built : (cpu : Cpu) → IsBuilt (checked cpu)
 unfolding checked
-checked_built machine =
-    built_either (may_enter cause.MachineCheck machine.registers) (entered cause.MachineCheck machine) (record { after = record machine { faulted = true }; act = Faulted })
+checked_built cpu =
+    either (may_enter cause.MachineCheck cpu.registers) (quiet (entered cause.MachineCheck cpu)) (record { cpu = cpu; act = Faulted })
     (quiet_built _) (record { built = λ e. absurd (cc) })
 
-missed_built : (reason : Cause) (space : Bool) (ea : ℕ) (machine : Machine) → IsBuilt (missed reason space ea machine)
-unfolding missed
-missed_built reason space ea machine =
-    built_either (is_translated machine.translations space machine.registers.pid ea) (checked machine) (entered reason machine) (checked_built machine) (quiet_built _)
-
-privileged_built : (insn : _) (machine : Machine) → IsBuilt (privileged insn machine)
-unfolding privileged
-privileged_built insn machine = quiet_built _
+missed_built : (reason : Cause) (found : Found) (cpu : Cpu) → IsBuilt (missed reason found cpu)
+missed_built reason Missing cpu = quiet_built _
+missed_built reason Unbacked cpu = checked_built cpu
+missed_built reason (Backed page) cpu = checked_built cpu
 
 -- a service that isn't built, and one that is
-served_unbuilt : (c : Call) (machine : Machine) → c ≢ call.Unlisted → c ≢ call.ByteChannelSend → served c machine ≡ not_built machine
+served_unbuilt : (kinds : List Kind) (c : Call) (cpu : Cpu) (ends : List End) → is_built c ≡ false → served kinds c cpu ends ≡ record { cpu = cpu; act = NotBuilt }
 unfolding served
-served_unbuilt call.Unlisted machine h k = absurd (h refl)
-served_unbuilt call.ByteChannelSend machine h k = absurd (k refl)
-served_unbuilt _ machine h k = refl
+served_unbuilt kinds call.Unlisted cpu ends h = absurd (cc)
+served_unbuilt kinds call.Send cpu ends h = absurd (cc)
+served_unbuilt kinds call.Receive cpu ends h = absurd (cc)
+served_unbuilt kinds call.Poll cpu ends h = absurd (cc)
+served_unbuilt kinds _ cpu ends h = refl
 
-unlisted_built : (machine : Machine) → (served call.Unlisted machine).act ≢ NotBuilt
+not_built : (kinds : List Kind) (c : Call) (cpu : Cpu) (ends : List End) → (served kinds c cpu ends).act ≡ NotBuilt → is_built c ≡ false
 unfolding served
-unlisted_built machine = (refused_built _ machine).built
-
-not_unlisted : (c : Call) (machine : Machine) → (served c machine).act ≡ NotBuilt → c ≢ call.Unlisted
-not_unlisted c machine e f =
-    let g : (served call.Unlisted machine).act ≡ NotBuilt = subst (λ d. (served d machine).act ≡ NotBuilt) f e in unlisted_built machine g
-
-sends_built : (machine : Machine) → (served call.ByteChannelSend machine).act ≢ NotBuilt
-unfolding served
-sends_built machine = (send_built machine).built
-
-not_send : (c : Call) (machine : Machine) → (served c machine).act ≡ NotBuilt → c ≢ call.ByteChannelSend
-not_send c machine e f =
-    let g : (served call.ByteChannelSend machine).act ≡ NotBuilt = subst (λ d. (served d machine).act ≡ NotBuilt) f e in sends_built machine g
+not_built kinds call.Unlisted cpu ends e = absurd ((refusal_served status.Unimplemented).act e)
+not_built kinds call.Send cpu ends e = absurd ((send_served kinds cpu.registers ends).act e)
+not_built kinds call.Receive cpu ends e = absurd ((receive_served kinds cpu.registers ends).act e)
+not_built kinds call.Poll cpu ends e = absurd ((poll_served kinds cpu.registers ends).act e)
+not_built kinds _ cpu ends e = refl
 
 -- ---- the steps that aren't built are calls
 
-handled_calls : (answer : core.Answer) (machine : Machine) → (handled answer machine).act ≡ NotBuilt → answer ≡ core.Hcall
+handled_calls : (shape : Shape) (answer : core.Answer) (cpu : Cpu) (ends : List End) → (handled shape answer cpu ends).act ≡ NotBuilt → answer ≡ core.Hcall
 unfolding handled
-handled_calls core.Hcall machine e = refl
-handled_calls (core.Retired ranges) machine e = absurd ((quiet_built machine).built e)
-handled_calls core.Waiting machine e = absurd ((quiet_built machine).built e)
-handled_calls core.Sc machine e = absurd (cc)
-handled_calls (core.Priv insn) machine e = absurd ((privileged_built insn machine).built e)
-handled_calls (core.MissData ea store) machine e = absurd ((missed_built _ _ ea machine).built e)
-handled_calls (core.MissInsn ea) machine e = absurd ((missed_built _ _ ea machine).built e)
-handled_calls (core.StorageData ea store little) machine e = absurd (cc)
-handled_calls (core.StorageInsn little) machine e = absurd (cc)
-handled_calls (core.Align ea store) machine e = absurd (cc)
-handled_calls (core.Program syndrome) machine e = absurd (cc)
-handled_calls core.NoFloat machine e = absurd (cc)
+handled_calls shape core.Hcall cpu ends e = refl
+handled_calls shape (core.Retired ranges) cpu ends e = absurd ((quiet_built cpu).built e)
+handled_calls shape core.Waiting cpu ends e = absurd ((quiet_built cpu).built e)
+handled_calls shape core.Sc cpu ends e = absurd (cc)
+handled_calls shape (core.Priv insn) cpu ends e = absurd ((quiet_built (privileged insn cpu)).built e)
+handled_calls shape (core.MissData ea store) cpu ends e = absurd ((missed_built _ _ cpu).built e)
+handled_calls shape (core.MissInsn ea) cpu ends e = absurd ((missed_built _ _ cpu).built e)
+handled_calls shape (core.StorageData ea store little) cpu ends e = absurd (cc)
+handled_calls shape (core.StorageInsn little) cpu ends e = absurd (cc)
+handled_calls shape (core.Align ea store) cpu ends e = absurd (cc)
+handled_calls shape (core.Program syndrome) cpu ends e = absurd (cc)
+handled_calls shape core.NoFloat cpu ends e = absurd (cc)
 
-instruction_calls : (machine : Machine) → (instruction machine).act ≡ NotBuilt → (core.stepped (lookup machine.translations) machine.registers machine.memory).answer ≡ core.Hcall
+instruction_calls : (shape : Shape) (cpu : Cpu) (ends : List End) (memory : List (List ℕ)) → (instruction shape cpu ends memory).act ≡ NotBuilt → (core.stepped (lookup shape.areas cpu.translations) cpu.registers memory).answer ≡ core.Hcall
 unfolding instruction
-instruction_calls machine e = handled_calls _ _ e
+instruction_calls shape cpu ends memory e = handled_calls shape _ _ ends e
 
 -- a choice whose first step is built
-skips : (b : Bool) (one other : Stepped) → IsBuilt one → (cond b one other).act ≡ NotBuilt → (b ≡ false) × (other.act ≡ NotBuilt)
-skips true one other h e = absurd (h.built e)
+skips : (b : Bool) (one other : CoreStepped) → one.act ≢ NotBuilt → (cond b one other).act ≡ NotBuilt → (b ≡ false) × (other.act ≡ NotBuilt)
+skips true one other h e = absurd (h e)
 skips false one other h e = (refl, e)
 
-acted_calls : (machine : Machine) → (acted machine).act ≡ NotBuilt
-    → ((is_decrementer_pending machine.registers && are_interrupts_enabled machine.registers) ≡ false) × (machine.registers.idle ≡ false) × ((instruction machine).act ≡ NotBuilt)
+acted_calls : (shape : Shape) (cpu : Cpu) (ends : List End) (memory : List (List ℕ)) → (acted shape cpu ends memory).act ≡ NotBuilt
+    → ((is_decrementer_pending cpu.registers && are_interrupts_enabled cpu.registers) ≡ false) × (cpu.registers.idle ≡ false) × ((instruction shape cpu ends memory).act ≡ NotBuilt)
 unfolding acted
-acted_calls machine e =
-    let first = skips (is_decrementer_pending machine.registers && are_interrupts_enabled machine.registers) (entered cause.Decrementer machine) _ (quiet_built _) e in
-    let second = skips machine.registers.idle (quiet machine) (instruction machine) (quiet_built machine) first.1 in
+acted_calls shape cpu ends memory e =
+    let first = skips (is_decrementer_pending cpu.registers && are_interrupts_enabled cpu.registers) (still (quiet (entered cause.Decrementer cpu)) memory) _ (quiet_built (entered cause.Decrementer cpu)).built e in
+    let second = skips cpu.registers.idle (still (quiet cpu) memory) (instruction shape cpu ends memory) (quiet_built cpu).built first.1 in
     (first.0, second.0, second.1)
 
-acts_alike : (act : Act) (done : Stepped) (before : Machine) → done.act ≡ act → (unless_unbuilt act done before).act ≡ NotBuilt → done.act ≡ NotBuilt
-acts_alike NotBuilt done before e h = e
-acts_alike _ done before e h = h
+pub decide : (act : Act) → (act ≡ NotBuilt) ⊎ (act ≢ NotBuilt)
+decide NotBuilt = inl refl
+decide _ = inr (λ e. absurd (cc))
 
-step_acts : (machine : Machine) → (step machine).act ≡ NotBuilt → (acted (begun machine)).act ≡ NotBuilt
-unfolding step
-step_acts machine e = acts_alike (acted (begun machine)).act (acted (begun machine)) machine refl e
+step_acts : (shape : Shape) (cpu : Cpu) (ends : List End) (memory : List (List ℕ)) → (core_step shape cpu ends memory).act ≡ NotBuilt → (acted shape (begun cpu) ends memory).act ≡ NotBuilt
+step_acts shape cpu ends memory e =
+    elim (decide (acted shape (begun cpu) ends memory).act) as (λ _. (acted shape (begun cpu) ends memory).act ≡ NotBuilt) [
+      | inl is ↦ is
+      | inr is_not ↦ ap (λ (d : CoreStepped). d.act) (sym (core_whole shape cpu ends memory is_not)) ∙ e
+    ]
 
-calls_unbuilt : (machine : Machine) → (step machine).act ≡ NotBuilt → IsUnbuilt machine
-calls_unbuilt machine e =
-    let ready : Machine = begun machine in
-    let parts = acted_calls ready (step_acts machine e) in
-    let call = instruction_calls ready parts.2 in
-    let service : (served (service_of machine) ready).act ≡ NotBuilt = ap (λ (s : Stepped). s.act) (sym (hypercall ready call)) ∙ parts.2 in
+calls_unbuilt : (shape : Shape) (cpu : Cpu) (ends : List End) (memory : List (List ℕ)) → (core_step shape cpu ends memory).act ≡ NotBuilt → IsUnbuilt shape cpu memory
+calls_unbuilt shape cpu ends memory e =
+    let ready : Cpu = begun cpu in
+    let parts = acted_calls shape ready ends memory (step_acts shape cpu ends memory e) in
+    let calls = instruction_calls shape ready ends memory parts.2 in
+    let service : (served shape.kinds (service_of cpu) ready ends).act ≡ NotBuilt = ap (λ (s : CoreStepped). s.act) (sym (hypercall shape ready ends memory calls)) ∙ parts.2 in
     record {
-      calls = record { undisturbed = parts.0; awake = parts.1; call = call };
-      listed = not_unlisted (service_of machine) ready service;
-      not_send = not_send (service_of machine) ready service;
+      calls = record { undisturbed = parts.0; awake = parts.1; call = calls };
+      unbuilt = not_built shape.kinds (service_of cpu) ready ends service;
     }
 
 -- and the calls for what isn't built aren't done
-unbuilt_call : (machine : Machine) → IsUnbuilt machine → (step machine).act ≡ NotBuilt
-unfolding step
-unbuilt_call machine h =
-    let ready : Machine = begun machine in
-    let does : acted ready ≡ not_built ready =
-    instructs ready h.calls.undisturbed h.calls.awake ∙ (hypercall ready h.calls.call ∙ served_unbuilt (service_of machine) ready h.listed h.not_send) in
-    unbuilt-act (acted ready).act (acted ready) machine (ap (λ (s : Stepped). s.act) does)
+unbuilt_call : (shape : Shape) (cpu : Cpu) (ends : List End) (memory : List (List ℕ)) → IsUnbuilt shape cpu memory → (core_step shape cpu ends memory).act ≡ NotBuilt
+unbuilt_call shape cpu ends memory h =
+    let ready : Cpu = begun cpu in
+    let does : acted shape ready ends memory ≡ still (record { cpu = ready; act = NotBuilt }) memory =
+    instructs shape ready ends memory h.calls.undisturbed h.calls.awake ∙ (hypercall shape ready ends memory h.calls.call ∙ ap (λ (d : Done). still d memory) (served_unbuilt shape.kinds (service_of cpu) ready ends h.unbuilt)) in
+    ap (λ (d : CoreStepped). d.act) (core_nothing shape cpu ends memory (ap (λ (s : CoreStepped). s.act) does))
 
--- by what a LoneStep tells
-tells : (done : LoneStep) → act_of done ≡ NotBuilt → done ≡ code.NotBuilt
-tells code.NotBuilt e = refl
-tells code.Quiet e = absurd (cc)
-tells (code.Sent bytes) e = absurd (cc)
-tells code.Faulted e = absurd (cc)
-
-pub told_unbuilt : (done : LoneStep) (old new : Machine) → step old ≡ record { after = new; act = act_of done } → (done ≡ code.NotBuilt) ↔ IsUnbuilt old
-told_unbuilt done old new e = (
-  λ h. calls_unbuilt old (ap (λ (s : Stepped). s.act) e ∙ ap act_of h),
-  λ h. tells done (sym (ap (λ (s : Stepped). s.act) e) ∙ unbuilt_call old h),
+pub told_unbuilt : (shape : Shape) (cpu : Cpu) (ends : List End) (memory : List (List ℕ)) (act : Told) → (core_step shape cpu ends memory).act ≡ act_of act → (act ≡ told.NotBuilt) ↔ IsUnbuilt shape cpu memory
+told_unbuilt shape cpu ends memory act e = (
+  λ h. calls_unbuilt shape cpu ends memory (e ∙ ap act_of h),
+  λ h. tells act (sym e ∙ unbuilt_call shape cpu ends memory h),
 )

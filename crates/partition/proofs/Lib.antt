@@ -1,6 +1,10 @@
-pub mod Loading
+pub mod Areas
 pub mod Backed
 pub mod Steps
 pub mod Calls
+pub mod Starts
 pub mod Refusals
 pub mod Reached
+pub mod Ends
+pub mod Zeros
+pub mod Taking

@@ -1,5 +1,8 @@
--- What the slots of the translations keep, in every machine that is reached.
-use Rattle.std.proofs.Common.{ℕ, ◌<◌, Bool, true, false, ◌&&◌, cond, List, [], ◌∷◌, arith}
+-- What the translations keep, in every machine that is reached.
+use Rattle.std.proofs.Common.{◌≡◌, ℕ, ◌<◌, ◌==◌, Bool, true, false, ◌&&◌, cond, List, [], ◌∷◌, length, length-set, slice_set, get_or-set_same, get_or-set_other, refl, sym, subst, arith}
+use Rattle.std.specs.List.{range_with_len}
+use Rattle.std.proofs.lemmas.Bool.{eqb-true, eqb-false}
+use Rattle.std.proofs.lemmas.List.{get_or-map, length-map}
 use Rattle.guest_tlb.specs.Kept.{AreKept}
 use Rattle.guest_tlb.proofs.Upkeep.{reset_is_kept}
 use Rattle.core_step.specs.Step as core
@@ -8,131 +11,165 @@ use Rattle.trap_emulate.specs.declared.cause.Cause.TheVariants as cause
 use Rattle.trap_emulate.specs.Clock.{is_decrementer_pending}
 use Rattle.trap_emulate.specs.Entry.{are_interrupts_enabled, may_enter}
 use Rattle.trap_emulate.proofs.Translations.{emulation_keeps_victim, emulation_keeps_slots}
-use Rattle.partition.specs.declared.call.Call.{Call}
-use Rattle.partition.specs.declared.call.Call.TheVariants as call
-use Rattle.partition.specs.declared.event.Event.{Event}
-use Rattle.partition.specs.declared.event.Event.TheVariants.{Room}
-use Rattle.partition.specs.Machine.{Machine, is_channel, boot}
-use Rattle.partition.specs.Translated.{lookup, is_translated}
-use Rattle.partition.specs.Step.{Act, NotBuilt, Stepped, quiet, entered, refused, sending, send, served, checked, missed, privileged, handled, instruction, begun, acted, unless_unbuilt, step}
-use Rattle.partition.specs.Event.{apply}
-use Rattle.partition.specs.Reached.{Move, Steps, Takes, moved, after_moves, TranslationsStayApart, TranslationsStaySound, VictimsStayWays}
+use Rattle.machine_desc.specs.declared.desc.Desc.{Desc}
+use Rattle.hcall_abi.specs.declared.call.Call.{Call}
+use Rattle.hcall_abi.specs.declared.call.Call.TheVariants as call
+use Rattle.partition.specs.declared.found.Found.{Found}
+use Rattle.partition.specs.declared.found.Found.TheVariants.{Missing, Unbacked, Backed}
+use Rattle.partition.specs.declared.kind.Kind.{Kind}
+use Rattle.hcall_abi.specs.declared.status.Status.TheVariants.{Unimplemented}
+use Rattle.partition.specs.Channels.{Served, refusal, send, receive, poll}
+use Rattle.partition.specs.Found.{lookup}
+use Rattle.partition.specs.Port.{End}
+use Rattle.partition.specs.Act.{Act, NotBuilt}
+use Rattle.partition.specs.Machine.{Cpu, Machine, Shape, shape_of, core_at, no_cpu, booted, booted_all, fresh}
+use Rattle.partition.specs.Step.{Done, CoreStepped, quiet, with_registers, entered, answered, answering, served, checked, missed, privileged, handled, still, instruction, begun, acted, unless_unbuilt, core_step, step}
+use Rattle.partition.specs.Event.{Event, Bytes, Room, Tells, Start, Stop, Restart, apply}
+use Rattle.partition.specs.Reached.{Move, Steps, Takes, moved, after_moves, TranslationsStaySound}
 
--- ---- the step
+-- ---- the step of a core
 
--- what is reached keeps of the translations
-record AreSound (machine : Machine) : Type 0 where
-  slots : AreKept machine.translations
-  victim : machine.next_victim < 4
+-- what is reached keeps of the translations of a core
+record Keeps (cpu : Cpu) : Type 0 where
+  slots : AreKept cpu.translations
+  victim : cpu.next_victim < 4
 
-record Stays (done : Stepped) : Type 0 where
-  slots : AreKept done.after.translations
-  victim : done.after.next_victim < 4
+either : (b : Bool) (one other : Done) → Keeps one.cpu → Keeps other.cpu → Keeps (cond b one other).cpu
+either true one other h k = h
+either false one other h k = k
 
-of_either : (b : Bool) (one other : Stepped) → Stays one → Stays other → Stays (cond b one other)
+of_either : (b : Bool) (one other : CoreStepped) → Keeps one.cpu → Keeps other.cpu → Keeps (cond b one other).cpu
 of_either true one other h k = h
 of_either false one other h k = k
 
-stays_refused : (machine : Machine) → AreSound machine → (s : _) → Stays (refused s machine)
-unfolding refused
-stays_refused machine h s = record { slots = h.slots; victim = h.victim }
+stays_answered : (cpu : Cpu) (it : Served) → Keeps cpu → Keeps (answering it cpu).cpu
+unfolding answered
+stays_answered cpu it h = record { slots = h.slots; victim = h.victim }
 
-stays_sent : (machine : Machine) → AreSound machine → (s : _) (handle count : ℕ) → Stays (sending s handle count machine)
-unfolding sending
-stays_sent machine h s handle count = record { slots = h.slots; victim = h.victim }
-
-stays_send : (machine : Machine) → AreSound machine → Stays (send machine)
-unfolding send
-stays_send machine h = of_either _ _ _ (stays_refused machine h _) (of_either _ _ _ (stays_sent machine h _ _ _) (stays_sent machine h _ _ _))
-
-stays_served : (service : Call) (machine : Machine) → AreSound machine → Stays (served service machine)
+stays_served : (kinds : List Kind) (service : Call) (cpu : Cpu) (ends : List End) → Keeps cpu → Keeps (served kinds service cpu ends).cpu
 unfolding served
-stays_served call.ByteChannelSend machine h = stays_send machine h
-stays_served call.Unlisted machine h = stays_refused machine h _
-stays_served _ machine h = record { slots = h.slots; victim = h.victim }
+stays_served kinds call.Send cpu ends h = stays_answered cpu (send kinds cpu.registers ends) h
+stays_served kinds call.Receive cpu ends h = stays_answered cpu (receive kinds cpu.registers ends) h
+stays_served kinds call.Poll cpu ends h = stays_answered cpu (poll kinds cpu.registers ends) h
+stays_served kinds call.Unlisted cpu ends h = stays_answered cpu (refusal Unimplemented) h
+stays_served kinds _ cpu ends h = record { slots = h.slots; victim = h.victim }
 
-stays_checked : (machine : Machine) → AreSound machine → Stays (checked machine)
+stays_entered : (reason : Cause) (cpu : Cpu) → Keeps cpu → Keeps (entered reason cpu)
+stays_entered reason cpu h = record { slots = h.slots; victim = h.victim }
+
+stays_checked : (cpu : Cpu) → Keeps cpu → Keeps (checked cpu).cpu
 unfolding checked
-stays_checked machine h = of_either (may_enter cause.MachineCheck machine.registers) _ _ (record { slots = h.slots; victim = h.victim }) (record { slots = h.slots; victim = h.victim })
+stays_checked cpu h = either (may_enter cause.MachineCheck cpu.registers) _ _ (stays_entered cause.MachineCheck cpu h) (record { slots = h.slots; victim = h.victim })
 
-stays_missed : (reason : Cause) (space : Bool) (ea : ℕ) (machine : Machine) → AreSound machine → Stays (missed reason space ea machine)
-unfolding missed
-stays_missed reason space ea machine h =
-    of_either (is_translated machine.translations space machine.registers.pid ea) _ _ (stays_checked machine h) (record { slots = h.slots; victim = h.victim })
+stays_missed : (reason : Cause) (found : Found) (cpu : Cpu) → Keeps cpu → Keeps (missed reason found cpu).cpu
+stays_missed reason Missing cpu h = stays_entered reason cpu h
+stays_missed reason Unbacked cpu h = stays_checked cpu h
+stays_missed reason (Backed page) cpu h = stays_checked cpu h
 
-stays_privileged : (machine : Machine) (insn : _) → AreSound machine → Stays (privileged insn machine)
+stays_privileged : (cpu : Cpu) (insn : _) → Keeps cpu → Keeps (privileged insn cpu)
 unfolding privileged
-stays_privileged machine insn h = record {
-  slots = emulation_keeps_slots insn.op insn.word machine.next_victim machine.registers machine.translations h.slots;
-  victim = emulation_keeps_victim insn.op insn.word machine.next_victim machine.registers machine.translations h.victim;
+stays_privileged cpu insn h = record {
+  slots = emulation_keeps_slots insn.op insn.word cpu.next_victim cpu.registers cpu.translations h.slots;
+  victim = emulation_keeps_victim insn.op insn.word cpu.next_victim cpu.registers cpu.translations h.victim;
 }
 
-stays_handled : (answer : core.Answer) (machine : Machine) → AreSound machine → Stays (handled answer machine)
+stays_handled : (shape : Shape) (answer : core.Answer) (cpu : Cpu) (ends : List End) → Keeps cpu → Keeps (handled shape answer cpu ends).cpu
 unfolding handled
-stays_handled (core.Retired ranges) machine h = record { slots = h.slots; victim = h.victim }
-stays_handled core.Waiting machine h = record { slots = h.slots; victim = h.victim }
-stays_handled core.Sc machine h = record { slots = h.slots; victim = h.victim }
-stays_handled core.Hcall machine h = stays_served _ machine h
-stays_handled (core.Priv insn) machine h = stays_privileged machine insn h
-stays_handled (core.MissData ea store) machine h = stays_missed _ _ ea machine h
-stays_handled (core.MissInsn ea) machine h = stays_missed _ _ ea machine h
-stays_handled (core.StorageData ea store little) machine h = record { slots = h.slots; victim = h.victim }
-stays_handled (core.StorageInsn little) machine h = record { slots = h.slots; victim = h.victim }
-stays_handled (core.Align ea store) machine h = record { slots = h.slots; victim = h.victim }
-stays_handled (core.Program syndrome) machine h = record { slots = h.slots; victim = h.victim }
-stays_handled core.NoFloat machine h = record { slots = h.slots; victim = h.victim }
+stays_handled shape (core.Retired ranges) cpu ends h = h
+stays_handled shape core.Waiting cpu ends h = h
+stays_handled shape core.Sc cpu ends h = stays_entered _ cpu h
+stays_handled shape core.Hcall cpu ends h = stays_served shape.kinds _ cpu ends h
+stays_handled shape (core.Priv insn) cpu ends h = stays_privileged cpu insn h
+stays_handled shape (core.MissData ea store) cpu ends h = stays_missed _ _ cpu h
+stays_handled shape (core.MissInsn ea) cpu ends h = stays_missed _ _ cpu h
+stays_handled shape (core.StorageData ea store little) cpu ends h = stays_entered _ cpu h
+stays_handled shape (core.StorageInsn little) cpu ends h = stays_entered _ cpu h
+stays_handled shape (core.Align ea store) cpu ends h = stays_entered _ cpu h
+stays_handled shape (core.Program syndrome) cpu ends h = stays_entered _ cpu h
+stays_handled shape core.NoFloat cpu ends h = stays_entered _ cpu h
 
-stays_instruction : (machine : Machine) → AreSound machine → Stays (instruction machine)
+stays_instruction : (shape : Shape) (cpu : Cpu) (ends : List End) (memory : List (List ℕ)) → Keeps cpu → Keeps (instruction shape cpu ends memory).cpu
 unfolding instruction
-stays_instruction machine h =
-    let done : core.Stepped = core.stepped (lookup machine.translations) machine.registers machine.memory in
-    stays_handled done.answer (record machine { registers = done.registers; memory = done.memory }) (record { slots = h.slots; victim = h.victim })
+stays_instruction shape cpu ends memory h =
+    let did : core.Stepped = core.stepped (lookup shape.areas cpu.translations) cpu.registers memory in
+    stays_handled shape did.answer (with_registers did.registers cpu) ends (record { slots = h.slots; victim = h.victim })
 
-stays_acted : (machine : Machine) → AreSound machine → Stays (acted machine)
+stays_acted : (shape : Shape) (cpu : Cpu) (ends : List End) (memory : List (List ℕ)) → Keeps cpu → Keeps (acted shape cpu ends memory).cpu
 unfolding acted
-stays_acted machine h =
-    of_either (is_decrementer_pending machine.registers && are_interrupts_enabled machine.registers) (entered cause.Decrementer machine) _ (record { slots = h.slots; victim = h.victim })
-    (of_either machine.registers.idle (quiet machine) _ (record { slots = h.slots; victim = h.victim }) (stays_instruction machine h))
+stays_acted shape cpu ends memory h =
+    of_either (is_decrementer_pending cpu.registers && are_interrupts_enabled cpu.registers) (still (quiet (entered cause.Decrementer cpu)) memory) _ (stays_entered _ cpu h)
+    (of_either cpu.registers.idle (still (quiet cpu) memory) _ h (stays_instruction shape cpu ends memory h))
 
-stays_begun : (machine : Machine) → AreSound machine → AreSound (begun machine)
+stays_begun : (cpu : Cpu) → Keeps cpu → Keeps (begun cpu)
 unfolding begun
-stays_begun machine h = record { slots = h.slots; victim = h.victim }
+stays_begun cpu h = record { slots = h.slots; victim = h.victim }
 
-stays_unless : (act : Act) (done : Stepped) (before : Machine) → AreSound before → Stays done → Stays (unless_unbuilt act done before)
-stays_unless NotBuilt done before h k = record { slots = h.slots; victim = h.victim }
-stays_unless _ done before h k = k
+stays_unless : (act : Act) (done : CoreStepped) (cpu : Cpu) (memory : List (List ℕ)) → Keeps cpu → Keeps done.cpu → Keeps (unless_unbuilt act done cpu memory).cpu
+stays_unless NotBuilt done cpu memory h k = h
+stays_unless _ done cpu memory h k = k
 
-stays_step : (machine : Machine) → AreSound machine → AreSound (step machine).after
+stays_core : (shape : Shape) (cpu : Cpu) (ends : List End) (memory : List (List ℕ)) → Keeps cpu → Keeps (core_step shape cpu ends memory).cpu
+unfolding core_step
+stays_core shape cpu ends memory h =
+    stays_unless (acted shape (begun cpu) ends memory).act (acted shape (begun cpu) ends memory) cpu memory h (stays_acted shape (begun cpu) ends memory (stays_begun cpu h))
+
+-- ---- all cores
+
+abbrev AllKeep : List Cpu → Type 0
+AllKeep cores = (k : ℕ) → k < length cores → Keeps (core_at cores k)
+
+stays_set : (cores : List Cpu) (core : ℕ) (cpu : Cpu) → AllKeep cores → (core < length cores → Keeps cpu) → AllKeep (slice_set cores core cpu)
+stays_set cores core cpu all new k below =
+    let within : k < length cores = omega (arith, below, length-set cores core cpu) in
+    elim (k == core) as (λ b. (k == core) ≡ b → Keeps (core_at (slice_set cores core cpu) k)) [
+      | true ↦ λ e.
+          let same : k ≡ core = eqb-true k core e in
+          let here : core < length cores = omega (arith, within, same) in
+          let is : core_at (slice_set cores core cpu) core ≡ cpu = get_or-set_same cores core cpu no_cpu here in
+          subst (λ (i : ℕ). Keeps (core_at (slice_set cores core cpu) i)) (sym same) (subst Keeps (sym is) (new here))
+      | false ↦ λ e.
+          let is : core_at (slice_set cores core cpu) k ≡ core_at cores k = get_or-set_other cores core k cpu no_cpu (eqb-false k core e) in
+          subst Keeps (sym is) (all k within)
+    ] refl
+
+stays_step : (desc : Desc) (machine : Machine) (core : ℕ) (feed : List ℕ) → AllKeep machine.inner.cores → AllKeep (step desc machine core feed).after.inner.cores
 unfolding step
-stays_step machine h =
-    let done = stays_unless (acted (begun machine)).act (acted (begun machine)) machine h (stays_acted (begun machine) (stays_begun machine h)) in
-    record { slots = done.slots; victim = done.victim }
+stays_step desc machine core feed all =
+    stays_set machine.inner.cores core _ all (λ here. stays_core (shape_of desc) (core_at machine.inner.cores core) machine.ports machine.memory (all core here))
 
-by_handle : (b : Bool) (one other : Machine) → AreSound one → AreSound other → AreSound (cond b one other)
-by_handle true one other h k = h
-by_handle false one other h k = k
+starts : (entry tree_at number : ℕ) → Keeps (booted entry tree_at number)
+unfolding booted
+starts entry tree_at number = record { slots = reset_is_kept; victim = omega arith }
 
-stays_told : (event : Event) (machine : Machine) → AreSound machine → AreSound (apply machine event)
+stays_booted : (desc : Desc) (entry : ℕ) → AllKeep (booted_all desc entry)
+stays_booted desc entry k below =
+    let numbers : List ℕ = range_with_len 0 (length desc.cores) in
+    let few : k < length numbers = omega (arith, below, length-map numbers (λ (number : ℕ). booted entry desc.tree_at number)) in
+    let is = get_or-map (λ (number : ℕ). booted entry desc.tree_at number) numbers k 0 no_cpu few in
+    subst Keeps (sym is) (starts entry desc.tree_at _)
+
+stays_told : (desc : Desc) (machine : Machine) (event : Event) → AllKeep machine.inner.cores → AllKeep (apply desc machine event).inner.cores
 unfolding apply
-stays_told (Room handle count) machine h = by_handle (is_channel handle) _ machine (record { slots = h.slots; victim = h.victim }) h
+stays_told desc machine (Bytes handle bytes) all = all
+stays_told desc machine (Room handle count) all = all
+stays_told desc machine (Tells handle runs) all = all
+stays_told desc machine (Start entry load) all = stays_booted desc entry
+stays_told desc machine Stop all = all
+stays_told desc machine Restart all = stays_booted desc desc.entry
 
-stays_moved : (move : Move) (machine : Machine) → AreSound machine → AreSound (moved move machine)
-stays_moved Steps machine h = stays_step machine h
-stays_moved (Takes event) machine h = stays_told event machine h
+stays_moved : (desc : Desc) (move : Move) (machine : Machine) → AllKeep machine.inner.cores → AllKeep (moved desc move machine).inner.cores
+stays_moved desc (Steps core feed) machine all = stays_step desc machine core feed all
+stays_moved desc (Takes event) machine all = stays_told desc machine event all
 
-stays_after : (moves : List Move) (machine : Machine) → AreSound machine → AreSound (after_moves moves machine)
-stays_after [] machine h = h
-stays_after (move ∷ moves) machine h = stays_after moves (moved move machine) (stays_moved move machine h)
+stays_after : (desc : Desc) (moves : List Move) (machine : Machine) → AllKeep machine.inner.cores → AllKeep (after_moves desc moves machine).inner.cores
+stays_after desc [] machine all = all
+stays_after desc (move ∷ moves) machine all = stays_after desc moves (moved desc move machine) (stays_moved desc move machine all)
 
-booted : (image : List ℕ) → AreSound (boot image)
-unfolding boot
-booted image = record { slots = reset_is_kept; victim = omega arith }
+loads : (desc : Desc) → AllKeep (fresh desc).inner.cores
+unfolding fresh
+loads desc = stays_booted desc desc.entry
 
 pub stay_sound : TranslationsStaySound
-stay_sound image moves = (stays_after moves (boot image) (booted image)).slots
-
-pub stay_ways : VictimsStayWays
-stay_ways image moves = (stays_after moves (boot image) (booted image)).victim
-
-pub stay_apart : TranslationsStayApart
-stay_apart image moves = (stay_sound image moves).apart
+stay_sound desc moves core here =
+    let kept = stays_after desc moves (fresh desc) (loads desc) core here in
+    record { apart = kept.slots.apart; slots = kept.slots; victim = kept.victim }

@@ -1,40 +1,44 @@
 -- What the world outside does to the machine between two steps.
-use Rattle.std.specs.Prelude.{◌≡◌, ◌+◌, ◌-◌, ◌<◌, ◌≤◌, Bool, true, false, length, if◌then◌else◌}
-use Rattle.partition.specs.declared.event.Event.{Event}
-use Rattle.partition.specs.declared.event.Event.TheVariants.{Room}
-use Rattle.partition.specs.declared.event.LoneStep.{LoneStep}
-use Rattle.partition.specs.declared.event.LoneStep.TheVariants as code
-use Rattle.partition.specs.Machine.{Machine, is_channel, port_of, ports_with}
-use Rattle.partition.specs.Step.{Act, Quiet, Sent, Faulted, NotBuilt}
+use Rattle.std.specs.Prelude.{ℕ, Bool, true, List, ◌∷◌, if◌then◌else◌}
+use Rattle.machine_desc.specs.declared.act.State.TheVariants.{Running, Stopped}
+use Rattle.machine_desc.specs.declared.desc.Desc.{Desc}
+use Rattle.machine_desc.specs.declared.desc.Region.{Region}
+use Rattle.fresh_load.specs.Fresh.{fresh_bytes}
+use Rattle.machine_desc.specs.declared.desc.Piece.{Piece}
+use Rattle.partition.specs.Port.{come_on, freed_on, told_on, emptied}
+use Rattle.partition.specs.Machine.{Machine, booted_all}
 
--- the machine after an event: where the other end took bytes, so many fewer are outstanding
-unfoldable pub apply : Machine → Event → Machine
-apply machine (Room handle count) =
-    if is_channel handle then record machine { ports = ports_with machine handle ((port_of machine handle).outstanding - count) } else machine
+pub data Event : Type 0 where
+  -- on this handle these bytes came
+  Bytes : ℕ → List ℕ → Event
+  -- on this handle the other end took so many bytes
+  Room : ℕ → ℕ → Event
+  -- the partition that the handle manages runs now, or doesn't
+  Tells : ℕ → Bool → Event
+  -- where it starts, and whether its memory is loaded anew
+  Start : ℕ → Bool → Event
+  Stop : Event
+  Restart : Event
 
--- what a LoneStep tells: the built-in machine's one handle is 1
-abbrev pub act_of : LoneStep → Act
-act_of code.Quiet = Quiet
-act_of (code.Sent bytes) = Sent 1 bytes.items
-act_of code.Faulted = Faulted
-act_of code.NotBuilt = NotBuilt
+-- the memory with its private regions as they were first; shared ones stay
+abbrev pub reloaded : List Piece → List Region → List (List ℕ) → List (List ℕ)
+reloaded pieces (region ∷ regions) (bytes ∷ memory) = (if region.private then fresh_bytes pieces region else bytes) ∷ reloaded pieces regions memory
+reloaded pieces _ memory = memory
 
--- a Sent has bytes, and no more than a hypercall takes
-abbrev pub HasBytes : LoneStep → Type 0
-HasBytes (code.Sent bytes) = (0 < length bytes.items) × (length bytes.items ≤ 16)
-HasBytes _ = Unit {0}
+-- The machine as it was loaded, but that it begins at this entry; what it has outstanding, the states of the partitions that it
+-- manages, its shared regions and the count of its steps stay.
+abbrev pub started : Desc → ℕ → Bool → Machine → Machine
+started desc entry load machine = record {
+  inner = record { cores = booted_all desc entry; state = Running; steps = machine.inner.steps };
+  ports = emptied machine.ports;
+  memory = if load then reloaded desc.pieces desc.regions machine.memory else machine.memory;
+}
 
--- a step that was done is counted, and one that was not leaves the machine
-abbrev pub IsCounted : LoneStep → Machine → Machine → Type 0
-IsCounted code.NotBuilt old new = new ≡ old
-IsCounted _ old new = new.steps ≡ old.steps + 1
-
--- what isn't built leaves the machine, and a step counts itself alone
-abbrev pub KeepsUnbuilt : LoneStep → Machine → Machine → Type 0
-KeepsUnbuilt code.NotBuilt old new = new ≡ old
-KeepsUnbuilt _ old new = new.steps ≡ old.steps
-
--- a fault is told by the step that meets it
-abbrev pub TellsFault : LoneStep → Bool → Type 0
-TellsFault code.Faulted faulted = faulted ≡ true
-TellsFault _ faulted = faulted ≡ false
+-- the machine after an event
+unfoldable pub apply : Desc → Machine → Event → Machine
+apply desc machine (Bytes handle bytes) = record machine { ports = come_on machine.ports handle bytes }
+apply desc machine (Room handle count) = record machine { ports = freed_on machine.ports handle count }
+apply desc machine (Tells handle runs) = record machine { ports = told_on machine.ports handle runs }
+apply desc machine (Start entry load) = started desc entry load machine
+apply desc machine Stop = record machine { inner = record machine.inner { state = Stopped } }
+apply desc machine Restart = started desc desc.entry true machine

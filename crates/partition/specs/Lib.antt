@@ -1,8 +1,14 @@
-pub mod Hypercall
+pub mod Channels
+pub mod Regions
+pub mod Found
+pub mod Port
+pub mod Act
 pub mod Machine
-pub mod Translated
 pub mod Step
 pub mod Event
+pub mod Lending
 pub mod Calling
 pub mod Refusal
 pub mod Reached
+pub mod MemPorts
+pub mod Loading

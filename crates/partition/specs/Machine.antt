@@ -1,72 +1,77 @@
 -- The machine of one partition by itself: no real address, no other partition, no channel's other end.
-use Rattle.std.specs.Prelude.{ℕ, ◌-◌, ◌==◌, Bool, false, List, [], ◌∷◌, ◌++◌, length, replicate, slice_index_or, slice_set}
+use Rattle.std.specs.Prelude.{ℕ, ◌==◌, List, [], map, length, slice_index_or, Option, if◌then◌else◌}
+use Rattle.std.specs.List.{position, range_with_len}
 use Rattle.guest_regs.specs.Registers.{Registers, boot_registers}
 use Rattle.mas.specs.declared.entry.Entry.{Entry}
 use Rattle.guest_tlb.specs.Slots.{initial_slots}
+use Rattle.machine_desc.specs.declared.act.State.{State}
+use Rattle.machine_desc.specs.declared.act.State.TheVariants.{Running, Stopped}
+use Rattle.machine_desc.specs.declared.desc.Desc.{Desc}
+use Rattle.fresh_load.specs.Fresh.{fresh_memory}
+use Rattle.partition.specs.declared.kind.Kind.{Kind}
+use Rattle.partition.specs.Regions.{Area, areas_of}
+use Rattle.partition.specs.Port.{End, kinds_of, fresh_end}
 
--- the partition's end of what a handle names
-pub record Port : Type 0 where
-  -- the bytes that it sent and the other end has not taken
-  pub outstanding : ℕ
-
-pub record Machine : Type 0 where
-  -- of its one core, with its reservation and its idle flag
+pub record Cpu : Type 0 where
+  -- with its reservation and its idle flag
   pub registers : Registers
   -- the slots of its two TLBs
   pub translations : List Entry
   -- the way of TLB0 that its next miss is to replace
   pub next_victim : ℕ
-  -- the bytes of each region, in the order of the partition's description
-  pub memory : List (List ℕ)
-  -- by handle, from 1
-  pub ports : List Port
-  -- how many steps it has done
-  pub steps : ℕ
-  -- whether it met a machine check that it couldn't take, and does no further step
-  pub faulted : Bool
 
--- The built-in partition has one region, of this many bytes from logical address 0, and one handle, 1, a channel.
-abbrev pub memory_size : ℕ
-memory_size = 65536
+-- what a partition holds by itself
+pub record Inner : Type 0 where
+  -- one long until partitions have several
+  pub cores : List Cpu
+  pub state : State
+  -- how many steps its cores have done together
+  pub steps : ℕ
+
+pub record Machine : Type 0 where
+  pub inner : Inner
+  -- by handle, from 1
+  pub ports : List End
+  -- the bytes of each region, in the order of the description
+  pub memory : List (List ℕ)
 
 -- how many steps a machine may do in all
 abbrev pub most_steps : ℕ
 most_steps = 1000000000000
 
-abbrev pub is_channel : ℕ → Bool
-is_channel handle = handle == 1
+-- no core, for where a list has none
+abbrev pub no_cpu : Cpu
+no_cpu = record { registers = boot_registers 0 0 0; translations = []; next_victim = 0 }
 
--- how many bytes may be outstanding on a channel
-abbrev pub channel_size : ℕ
-channel_size = 256
+abbrev pub core_at : List Cpu → ℕ → Cpu
+core_at cores core = slice_index_or cores core no_cpu
 
-abbrev pub empty_port : Port
-empty_port = record { outstanding = 0 }
+-- the place of the core with this physical number
+abbrev pub place_in : List ℕ → ℕ → Option ℕ
+place_in cores number = position (λ (core : ℕ). core == number) cores
 
--- the port of a handle
-abbrev pub port_of : Machine → ℕ → Port
-port_of machine handle = slice_index_or machine.ports (handle - 1) empty_port
+-- ---- what a step reads of the description
 
--- how many more bytes a channel takes
-abbrev pub room : Machine → ℕ → ℕ
-room machine handle = channel_size - (port_of machine handle).outstanding
+pub record Shape : Type 0 where
+  pub areas : List Area
+  pub kinds : List Kind
 
--- the ports with another outstanding count on a handle
-abbrev pub ports_with : Machine → ℕ → ℕ → List Port
-ports_with machine handle count = slice_set machine.ports (handle - 1) (record (port_of machine handle) { outstanding = count })
+abbrev pub shape_of : Desc → Shape
+shape_of desc = record { areas = areas_of desc.regions; kinds = kinds_of desc.ports }
 
--- an image from its region's start, and zeros up to the region's size
-unfoldable pub loaded : ℕ → List ℕ → List ℕ
-loaded size image = image ++ replicate (size - length image) 0
+-- ---- the machine before its first step
 
--- the machine before its first step: it starts at 0, and r3 is 0, since it has no device tree; the initial area alone is translated
-unfoldable pub boot : List ℕ → Machine
-boot image = record {
-  registers = boot_registers 0 0 0;
-  translations = initial_slots;
-  next_victim = 0;
-  memory = loaded memory_size image ∷ [];
-  ports = empty_port ∷ [];
-  steps = 0;
-  faulted = false;
-}
+-- A core as its program starts (ePAPR 1.1, 5.4): r3 is the address of the device tree, and the initial area alone is translated.
+unfoldable pub booted : ℕ → ℕ → ℕ → Cpu
+booted entry tree_at number = record { registers = boot_registers entry tree_at number; translations = initial_slots; next_victim = 0 }
+
+-- the cores, each by its place in the partition
+abbrev pub booted_all : Desc → ℕ → List Cpu
+booted_all desc entry = map (λ (number : ℕ). booted entry desc.tree_at number) (range_with_len 0 (length desc.cores))
+
+-- what a held partition waits for is its manager's start
+abbrev pub fresh_inner : Desc → Inner
+fresh_inner desc = record { cores = booted_all desc desc.entry; state = if desc.held then Stopped else Running; steps = 0 }
+
+unfoldable pub fresh : Desc → Machine
+fresh desc = record { inner = fresh_inner desc; ports = map fresh_end desc.ports; memory = fresh_memory desc }

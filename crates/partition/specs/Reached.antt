@@ -1,33 +1,35 @@
 -- The machines that can be reached, and what holds of all of them.
-use Rattle.std.specs.Prelude.{ℕ, ◌<◌, List, [], ◌∷◌}
+use Rattle.std.specs.Prelude.{ℕ, ◌<◌, List, [], ◌∷◌, length}
 use Rattle.guest_tlb.specs.Kept.{AreApart, AreKept}
-use Rattle.partition.specs.declared.event.Event.{Event}
-use Rattle.partition.specs.Machine.{Machine, boot}
+use Rattle.machine_desc.specs.declared.desc.Desc.{Desc}
+use Rattle.partition.specs.Machine.{Machine, Cpu, core_at, fresh}
 use Rattle.partition.specs.Step.{step}
-use Rattle.partition.specs.Event.{apply}
+use Rattle.partition.specs.Event.{Event, apply}
 
 -- what can happen to a machine
 pub data Move : Type 0 where
-  Steps : Move
+  -- of the core at this place, with this feed
+  Steps : ℕ → List ℕ → Move
   Takes : Event → Move
 
-abbrev pub moved : Move → Machine → Machine
-moved Steps machine = (step machine).after
-moved (Takes event) machine = apply machine event
+abbrev pub moved : Desc → Move → Machine → Machine
+moved desc (Steps core feed) machine = (step desc machine core feed).after
+moved desc (Takes event) machine = apply desc machine event
 
 -- the machine after so many moves, the first one first
-abbrev pub after_moves : List Move → Machine → Machine
-after_moves [] machine = machine
-after_moves (move ∷ moves) machine = after_moves moves (moved move machine)
+abbrev pub after_moves : Desc → List Move → Machine → Machine
+after_moves desc [] machine = machine
+after_moves desc (move ∷ moves) machine = after_moves desc moves (moved desc move machine)
 
--- In every machine that an image can come to no two different live translations meet, so that at most one matches an access.
-abbrev pub TranslationsStayApart : Type 0
-TranslationsStayApart = (image : List ℕ) (moves : List Move) → AreApart (after_moves moves (boot image)).translations
+-- In every machine that a description can come to no two different live translations of a core meet, so that at most one matches an
+-- access; the slots keep all else that the TLBs keep, their number, and the sizes and places of pages; and the next victim is one of
+-- the four ways of TLB0.
+pub record AreSound (cpu : Cpu) : Type 0 where
+  pub apart : AreApart cpu.translations
+  pub slots : AreKept cpu.translations
+  pub victim : cpu.next_victim < 4
 
--- And the slots keep all else that the TLBs keep: their number, and the sizes and places of pages.
 abbrev pub TranslationsStaySound : Type 0
-TranslationsStaySound = (image : List ℕ) (moves : List Move) → AreKept (after_moves moves (boot image)).translations
-
--- And the next victim is always one of the four ways of TLB0.
-abbrev pub VictimsStayWays : Type 0
-VictimsStayWays = (image : List ℕ) (moves : List Move) → (after_moves moves (boot image)).next_victim < 4
+TranslationsStaySound =
+    (desc : Desc) (moves : List Move) (core : ℕ) → core < length (after_moves desc moves (fresh desc)).inner.cores
+    → AreSound (core_at (after_moves desc moves (fresh desc)).inner.cores core)

@@ -1,37 +1,40 @@
 -- What a hypercall that was not done leaves as it was.
-use Rattle.std.specs.Prelude.{◌≡◌, ◌≢◌, ℕ, [], length}
+use Rattle.std.specs.Prelude.{◌≡◌, ◌≢◌, ℕ, List, [], length}
 use Rattle.guest_regs.specs.Registers.{Registers, gpr_of}
-use Rattle.partition.specs.Machine.{Machine}
+use Rattle.machine_desc.specs.declared.act.State.TheVariants.{Running}
+use Rattle.partition.specs.Port.{End}
+use Rattle.partition.specs.Act.{NotBuilt, ports_after, state_after}
+use Rattle.partition.specs.Machine.{Cpu, Shape}
 use Rattle.partition.specs.Calling.{CallsNext}
-use Rattle.partition.specs.Step.{NotBuilt, begun, step}
+use Rattle.partition.specs.Step.{CoreStepped, begun, core_step}
 
 -- the registers without the general ones and the PC
 abbrev pub other_registers : Registers → Registers
 other_registers registers = record registers { gpr = []; pc = 0 }
 
--- the memory, the translations, the step count, the other registers, and each general register but r3 and r4 stay, and the partition runs on
-pub record KeepsMost (old new : Machine) : Type 0 where
-  pub memory : new.memory ≡ old.memory
-  pub translations : new.translations ≡ old.translations
-  pub next_victim : new.next_victim ≡ old.next_victim
-  pub steps : new.steps ≡ old.steps
-  pub faulted : new.faulted ≡ old.faulted
-  pub others : other_registers new.registers ≡ other_registers old.registers
-  pub registers : (n : ℕ) → n ≢ 3 → n ≢ 4 → gpr_of new.registers n ≡ gpr_of old.registers n
+-- the memory, the translations, the other registers, and each general register but r3 and r4 stay, and the partition runs on
+pub record KeepsMost (cpu : Cpu) (memory : List (List ℕ)) (done : CoreStepped) : Type 0 where
+  pub bytes : done.memory ≡ memory
+  pub stored : done.stored ≡ []
+  pub translations : done.cpu.translations ≡ cpu.translations
+  pub next_victim : done.cpu.next_victim ≡ cpu.next_victim
+  pub state : state_after done.act ≡ Running
+  pub others : other_registers done.cpu.registers ≡ other_registers cpu.registers
+  pub registers : (n : ℕ) → n ≢ 3 → n ≢ 4 → gpr_of done.cpu.registers n ≡ gpr_of cpu.registers n
 
--- r4 stays too, and so does what is outstanding
-pub record KeepsRest (old new : Machine) : Type 0 where
-  pub fourth : gpr_of new.registers 4 ≡ gpr_of old.registers 4
-  pub ports : new.ports ≡ old.ports
+-- r4 stays too, and so do the partition's ends
+pub record KeepsRest (cpu : Cpu) (ends : List End) (done : CoreStepped) : Type 0 where
+  pub fourth : gpr_of done.cpu.registers 4 ≡ gpr_of cpu.registers 4
+  pub ports : ports_after done.act ends ≡ ends
 
 -- Where the status in r3 is not success, r3 alone has changed, besides the PC; where it says that the caller may try again, r4 and
 -- what is outstanding have changed too.
-abbrev pub RefusesQuietly : Machine → Machine → Type 0
-RefusesQuietly old new =
-    gpr_of new.registers 3 ≢ 0 → KeepsMost old new × (gpr_of new.registers 3 ≢ 4 → KeepsRest old new)
+abbrev pub RefusesQuietly : Cpu → List End → List (List ℕ) → CoreStepped → Type 0
+RefusesQuietly cpu ends memory done =
+    gpr_of done.cpu.registers 3 ≢ 0 → KeepsMost cpu memory done × (gpr_of done.cpu.registers 3 ≢ 4 → KeepsRest cpu ends done)
 
--- So it is of each machine that calls the hypervisor next, for a service that is built, whose step has begun: it is counted, and its
--- time has passed.
+-- So it is of each core that calls the hypervisor next, for a service that is built, whose step has begun: its time has passed.
 abbrev pub RefusalsAreQuiet : Type 0
 RefusalsAreQuiet =
-    (machine : Machine) → length machine.registers.gpr ≡ 32 → CallsNext machine → (step machine).act ≢ NotBuilt → RefusesQuietly (begun machine) (step machine).after
+    (shape : Shape) (cpu : Cpu) (ends : List End) (memory : List (List ℕ)) → length cpu.registers.gpr ≡ 32 → CallsNext shape cpu memory
+    → (core_step shape cpu ends memory).act ≢ NotBuilt → RefusesQuietly (begun cpu) ends memory (core_step shape cpu ends memory)

@@ -1,8 +1,9 @@
 -- One step of the machine.
-use Rattle.std.specs.Prelude.{ℕ, ◌+◌, Bool, true, false, not, ◌&&◌, ◌||◌, nat_lt, List, [], ◌∷◌, take, if◌then◌else◌}
+use Rattle.std.specs.Prelude.{ℕ, ◌+◌, Bool, not, ◌&&◌, List, [], filter, slice_set, if◌then◌else◌}
 use Rattle.insn.specs.declared.instruction.Insn.{Insn}
 use Rattle.guest_regs.specs.State.{store_syndrome, order_syndrome}
-use Rattle.guest_regs.specs.Registers.{Registers, gpr_of, with_gpr, instruction_space, data_space}
+use Rattle.guest_regs.specs.Registers.{Registers, advanced, gpr_of, instruction_space, data_space}
+use Rattle.core_step.specs.declared.answer.Wrote.{Wrote}
 use Rattle.core_step.specs.Step as core
 use Rattle.trap_emulate.specs.declared.cause.Cause.{Cause}
 use Rattle.trap_emulate.specs.declared.cause.Cause.TheVariants as cause
@@ -10,146 +11,170 @@ use Rattle.trap_emulate.specs.Clock.{is_decrementer_pending, ticked}
 use Rattle.trap_emulate.specs.Entry.{are_interrupts_enabled, delivered, may_enter}
 use Rattle.trap_emulate.specs.Tlb.{Emulated}
 use Rattle.trap_emulate.specs.Privileged.{emulated}
-use Rattle.partition.specs.declared.call.Call.{Call}
-use Rattle.partition.specs.declared.call.Call.TheVariants as call
-use Rattle.partition.specs.declared.call.Status.{Status}
-use Rattle.partition.specs.declared.call.Status.TheVariants.{Success, TryAgain, InvalidArgument, Unimplemented}
-use Rattle.partition.specs.Hypercall.{call_of, answered, payload}
-use Rattle.partition.specs.Machine.{Machine, is_channel, port_of, room, ports_with}
-use Rattle.partition.specs.Translated.{lookup, is_translated}
+use Rattle.machine_desc.specs.declared.desc.Desc.{Desc}
+use Rattle.hcall_abi.specs.declared.call.Call.{Call}
+use Rattle.hcall_abi.specs.declared.call.Call.TheVariants as call
+use Rattle.hcall_abi.specs.declared.status.Status.TheVariants.{Unimplemented}
+use Rattle.hcall_abi.specs.Call.{call_of}
+use Rattle.hcall_abi.specs.Reply.{Reply, replied}
+use Rattle.partition.specs.declared.found.Found.{Found}
+use Rattle.partition.specs.declared.found.Found.TheVariants.{Missing}
+use Rattle.partition.specs.declared.kind.Kind.{Kind}
+use Rattle.partition.specs.Channels.{Served, refusal, send, receive, poll}
+use Rattle.partition.specs.Regions.{Area, area_at}
+use Rattle.partition.specs.Found.{found, lookup}
+use Rattle.partition.specs.Port.{End}
+use Rattle.partition.specs.Act.{Act, Nothing, Faulted, NotBuilt, ports_after, state_after, steps_after}
+use Rattle.partition.specs.Machine.{Cpu, Machine, Shape, shape_of, core_at}
 
--- what a step did that others see
-pub data Act : Type 0 where
-  Quiet : Act
-  -- on this handle, these bytes
-  Sent : ℕ → List ℕ → Act
-  -- the partition met a machine check that it couldn't take
-  Faulted : Act
-  -- the machine has no rule for what the program asks there
-  NotBuilt : Act
-
--- the machine after a step, and what the step did
-pub record Stepped : Type 0 where
-  pub after : Machine
+-- What is left of a core by something that sees no memory, and what others see of it. What it does to the partition's ends follows
+-- from that.
+pub record Done : Type 0 where
+  pub cpu : Cpu
   pub act : Act
 
 -- what others don't see
-abbrev pub quiet : Machine → Stepped
-quiet machine = record { after = machine; act = Quiet }
+abbrev pub quiet : Cpu → Done
+quiet cpu = record { cpu = cpu; act = Nothing }
 
-abbrev pub not_built : Machine → Stepped
-not_built machine = record { after = machine; act = NotBuilt }
-
-abbrev pub with_registers : Registers → Machine → Machine
-with_registers registers machine = record machine { registers = registers }
+abbrev pub with_registers : Registers → Cpu → Cpu
+with_registers registers cpu = record cpu { registers = registers }
 
 -- ---- hypercalls
 
--- to send no bytes is to do nothing
-abbrev pub sent : ℕ → List ℕ → Act
-sent handle [] = Quiet
-sent handle (byte ∷ bytes) = Sent handle (byte ∷ bytes)
+-- the reply stands in the caller's registers, and the caller goes on after its sc
+unfoldable pub answered : Reply → Cpu → Cpu
+answered reply cpu = with_registers (advanced (replied reply cpu.registers)) cpu
 
--- a hypercall that changes r3 alone
-unfoldable pub refused : Status → Machine → Stepped
-refused status machine = quiet (with_registers (answered status machine.registers) machine)
+abbrev pub answering : Served → Cpu → Done
+answering served cpu = record { cpu = answered served.reply cpu; act = served.act }
 
--- So many bytes of the payload go out, which r4 tells. They wait at the other end until it takes them.
-unfoldable pub sending : Status → ℕ → ℕ → Machine → Stepped
-sending status handle count machine = record {
-  after = record machine {
-    registers = answered status (with_gpr machine.registers 4 count);
-    ports = ports_with machine handle ((port_of machine handle).outstanding + count);
-  };
-  act = sent handle (take count (payload machine.registers));
-}
-
--- Send r4 bytes on the channel r3, at most sixteen. Where the channel has less room, as many go as it takes and the caller is told to
--- try again (ePAPR 1.1, chapter 7, byte channels).
-unfoldable pub send : Machine → Stepped
-send machine =
-    let handle = gpr_of machine.registers 3 in
-    let count = gpr_of machine.registers 4 in
-    if not (is_channel handle) || nat_lt 16 count then refused InvalidArgument machine
-    else if nat_lt (room machine handle) count then sending TryAgain handle (room machine handle) machine
-    else sending Success handle count machine
-
--- A service that the machine doesn't have yet is not built; a token that has no service is refused.
-unfoldable pub served : Call → Machine → Stepped
-served call.ByteChannelSend machine = send machine
-served call.Unlisted machine = refused Unimplemented machine
-served _ machine = not_built machine
+-- By the service: a token that has none is refused, and a service that isn't built yet is not done.
+unfoldable pub served : List Kind → Call → Cpu → List End → Done
+served kinds call.Send cpu ends = answering (send kinds cpu.registers ends) cpu
+served kinds call.Receive cpu ends = answering (receive kinds cpu.registers ends) cpu
+served kinds call.Poll cpu ends = answering (poll kinds cpu.registers ends) cpu
+served kinds call.Unlisted cpu ends = answering (refusal Unimplemented) cpu
+served kinds _ cpu ends = record { cpu = cpu; act = NotBuilt }
 
 -- ---- interrupts
 
 -- the entry of an interrupt
-abbrev pub entered : Cause → Machine → Stepped
-entered cause machine = quiet (with_registers (delivered machine.next_victim cause machine.registers) machine)
+abbrev pub entered : Cause → Cpu → Cpu
+entered cause cpu = with_registers (delivered cpu.next_victim cause cpu.registers) cpu
 
 -- A machine check is entered where MSR[ME] is set. Where it is clear the partition stops, and its registers stay as they are.
-unfoldable pub checked : Machine → Stepped
-checked machine =
-    if may_enter cause.MachineCheck machine.registers then entered cause.MachineCheck machine
-    else record { after = record machine { faulted = true }; act = Faulted }
+unfoldable pub checked : Cpu → Done
+checked cpu =
+    if may_enter cause.MachineCheck cpu.registers then quiet (entered cause.MachineCheck cpu)
+    else record { cpu = cpu; act = Faulted }
 
--- An access that finds no memory: where a translation matches it is a machine check, and where none does a TLB error, which is the
--- cause.
-unfoldable pub missed : Cause → Bool → ℕ → Machine → Stepped
-missed cause space ea machine =
-    if is_translated machine.translations space machine.registers.pid ea then checked machine else entered cause machine
+-- An access that finds no memory: where no translation matches it is a TLB error, which is the cause, and where one does a machine
+-- check.
+abbrev pub missed : Cause → Found → Cpu → Done
+missed cause Missing cpu = quiet (entered cause cpu)
+missed cause _ cpu = checked cpu
+
+abbrev pub found_for : List Area → Cpu → Bool → ℕ → Found
+found_for areas cpu space ea = found areas cpu.translations space cpu.registers.pid ea
 
 -- ---- the instruction
 
 -- a privileged instruction of the system
-unfoldable pub privileged : Insn → Machine → Stepped
-privileged insn machine =
-    let done : Emulated = emulated insn.op insn.word machine.registers machine.translations machine.next_victim in
-    quiet (record machine { registers = done.registers; translations = done.slots; next_victim = done.nv })
+unfoldable pub privileged : Insn → Cpu → Cpu
+privileged insn cpu =
+    let done : Emulated = emulated insn.op insn.word cpu.registers cpu.translations cpu.next_victim in
+    record { registers = done.registers; translations = done.slots; next_victim = done.nv }
 
--- what comes of the core's answer, in the machine as the core left it
-unfoldable pub handled : core.Answer → Machine → Stepped
-handled (core.Retired ranges) machine = quiet machine
-handled core.Waiting machine = quiet machine
-handled core.Sc machine = entered cause.Syscall machine
-handled core.Hcall machine = served (call_of (gpr_of machine.registers 11)) machine
-handled (core.Priv insn) machine = privileged insn machine
-handled (core.MissData ea store) machine = missed (cause.MissData ea store) (data_space machine.registers) ea machine
-handled (core.MissInsn ea) machine = missed (cause.MissInsn ea) (instruction_space machine.registers) ea machine
-handled (core.StorageData ea store little) machine =
-    entered (cause.StorageData ea (store_syndrome store + order_syndrome little)) machine
-handled (core.StorageInsn little) machine = entered (cause.StorageInsn (order_syndrome little)) machine
-handled (core.Align ea store) machine = entered (cause.Align ea (store_syndrome store)) machine
-handled (core.Program syndrome) machine = entered (cause.Program syndrome) machine
-handled core.NoFloat machine = entered cause.NoFloat machine
+-- what comes of an instruction's answer, in the core as the instruction left it
+unfoldable pub handled : Shape → core.Answer → Cpu → List End → Done
+handled shape (core.Retired ranges) cpu ends = quiet cpu
+handled shape core.Waiting cpu ends = quiet cpu
+handled shape core.Sc cpu ends = quiet (entered cause.Syscall cpu)
+handled shape core.Hcall cpu ends = served shape.kinds (call_of (gpr_of cpu.registers 11)) cpu ends
+handled shape (core.Priv insn) cpu ends = quiet (privileged insn cpu)
+handled shape (core.MissData ea store) cpu ends = missed (cause.MissData ea store) (found_for shape.areas cpu (data_space cpu.registers) ea) cpu
+handled shape (core.MissInsn ea) cpu ends = missed (cause.MissInsn ea) (found_for shape.areas cpu (instruction_space cpu.registers) ea) cpu
+handled shape (core.StorageData ea store little) cpu ends = quiet (entered (cause.StorageData ea (store_syndrome store + order_syndrome little)) cpu)
+handled shape (core.StorageInsn little) cpu ends = quiet (entered (cause.StorageInsn (order_syndrome little)) cpu)
+handled shape (core.Align ea store) cpu ends = quiet (entered (cause.Align ea (store_syndrome store)) cpu)
+handled shape (core.Program syndrome) cpu ends = quiet (entered (cause.Program syndrome) cpu)
+handled shape core.NoFloat cpu ends = quiet (entered cause.NoFloat cpu)
 
--- one instruction, and what comes of it
-unfoldable pub instruction : Machine → Stepped
-instruction machine =
-    let done : core.Stepped = core.stepped (lookup machine.translations) machine.registers machine.memory in
-    handled done.answer (record machine { registers = done.registers; memory = done.memory })
+-- what an instruction wrote
+abbrev pub written : core.Answer → List Wrote
+written (core.Retired ranges) = ranges
+written _ = []
+
+-- what of that lies in shared regions
+abbrev pub shared_ranges : List Area → List Wrote → List Wrote
+shared_ranges areas ranges = filter (λ (range : Wrote). not (area_at areas range.extent).private) ranges
+
+-- what a step leaves of its core and of the memory, what others see of it, and what it stored in shared regions
+pub record CoreStepped : Type 0 where
+  pub cpu : Cpu
+  pub memory : List (List ℕ)
+  pub act : Act
+  -- by the places of the regions
+  pub stored : List Wrote
+
+abbrev pub still : Done → List (List ℕ) → CoreStepped
+still done memory = record { cpu = done.cpu; memory = memory; act = done.act; stored = [] }
+
+-- all of the step that sees the memory
+unfoldable pub instruction : Shape → Cpu → List End → List (List ℕ) → CoreStepped
+instruction shape cpu ends memory =
+    let did : core.Stepped = core.stepped (lookup shape.areas cpu.translations) cpu.registers memory in
+    let done : Done = handled shape did.answer (with_registers did.registers cpu) ends in
+    record { cpu = done.cpu; memory = did.memory; act = done.act; stored = shared_ranges shape.areas (written did.answer) }
 
 -- ---- the step
 
 -- an interrupt that is pending ends the wait, also where MSR[EE] keeps it from being entered
 abbrev pub woken : Registers → Registers
-woken registers = if is_decrementer_pending registers then record registers { idle = false } else registers
+woken registers = if is_decrementer_pending registers then record registers { idle = Bool.false } else registers
 
--- The beginning of a step: it is counted, its time passes, and a core that waits is woken where an interrupt is pending.
-unfoldable pub begun : Machine → Machine
-begun machine = record machine { registers = woken (ticked machine.registers); steps = machine.steps + 1 }
+-- The beginning of a step: its time passes, and a core that waits is woken where an interrupt is pending.
+unfoldable pub begun : Cpu → Cpu
+begun cpu = with_registers (woken (ticked cpu.registers)) cpu
 
 -- The rest of it: an interrupt that is pending is entered where MSR[EE] lets it; else a core that waits goes on waiting; else an
 -- instruction is done.
-unfoldable pub acted : Machine → Stepped
-acted machine =
-    if is_decrementer_pending machine.registers && are_interrupts_enabled machine.registers then entered cause.Decrementer machine
-    else if machine.registers.idle then quiet machine
-    else instruction machine
+unfoldable pub acted : Shape → Cpu → List End → List (List ℕ) → CoreStepped
+acted shape cpu ends memory =
+    if is_decrementer_pending cpu.registers && are_interrupts_enabled cpu.registers then still (quiet (entered cause.Decrementer cpu)) memory
+    else if cpu.registers.idle then still (quiet cpu) memory
+    else instruction shape cpu ends memory
 
--- a step that isn't built isn't done: the machine is as it was before
-abbrev pub unless_unbuilt : Act → Stepped → Machine → Stepped
-unless_unbuilt NotBuilt done before = not_built before
-unless_unbuilt _ done before = done
+-- what isn't built leaves the core and the memory as they were
+abbrev pub unless_unbuilt : Act → CoreStepped → Cpu → List (List ℕ) → CoreStepped
+unless_unbuilt NotBuilt done cpu memory = record { cpu = cpu; memory = memory; act = NotBuilt; stored = [] }
+unless_unbuilt _ done cpu memory = done
 
-unfoldable pub step : Machine → Stepped
-step machine = let done = acted (begun machine) in unless_unbuilt done.act done machine
+unfoldable pub core_step : Shape → Cpu → List End → List (List ℕ) → CoreStepped
+core_step shape cpu ends memory =
+    let done : CoreStepped = acted shape (begun cpu) ends memory in unless_unbuilt done.act done cpu memory
+
+-- the machine after a step, what others see of it, and what it stored in shared regions, by the regions' places
+pub record Stepped : Type 0 where
+  pub after : Machine
+  pub act : Act
+  pub stored : List Wrote
+
+-- the machine once its core at this place has done so
+abbrev pub with_step : ℕ → CoreStepped → Machine → Machine
+with_step core done machine = record {
+  inner = record {
+    cores = slice_set machine.inner.cores core done.cpu;
+    state = state_after done.act;
+    steps = steps_after done.act machine.inner.steps;
+  };
+  ports = ports_after done.act machine.ports;
+  memory = done.memory;
+}
+
+-- One step of the core at this place. The feed is what the step copies out of a managed partition, and nothing until that is built.
+unfoldable pub step : Desc → Machine → ℕ → List ℕ → Stepped
+step desc machine core feed =
+    let done : CoreStepped = core_step (shape_of desc) (core_at machine.inner.cores core) machine.ports machine.memory in
+    record { after = with_step core done machine; act = done.act; stored = done.stored }

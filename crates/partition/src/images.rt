@@ -435,3 +435,105 @@ pub const FLOOD: [u32; 6] = [
     0x4400_0022, // sc 1
     0x4BFF_FFF4, // b .-12
 ];
+
+/// A store across the edge of two regions, what lies on both sides of it, and the first word of the memory.
+pub const SIDES: [u32; 7] = [
+    0x3CA0_1234, // lis r5,4660
+    0x60A5_5678, // ori r5,r5,22136
+    0x90A0_0FFE, // stw r5,4094(0)
+    0xA300_0FFE, // lhz r24,4094(0)
+    0xA320_1000, // lhz r25,4096(0)
+    0x8340_0FFE, // lwz r26,4094(0)
+    0xA360_0000, // lhz r27,0(0)
+];
+
+/// A store across the end of a region behind which there is none, and its machine check.
+pub const GAP: [u32; 12] = [
+    0x3860_0020, // li r3,32
+    0x7C71_63A6, // mtivor1 r3
+    0x3860_1000, // li r3,4096
+    0x7C60_0124, // mtmsr r3
+    0x3CA0_1234, // lis r5,4660
+    0x60A5_5678, // ori r5,r5,22136
+    0x90A0_0FFE, // stw r5,4094(0)
+    0x4800_0000, // b 1c
+    0x7F1A_8AA6, // mfmcsrr0 r24
+    0xA320_0FFE, // lhz r25,4094(0)
+    0xA340_2000, // lhz r26,8192(0)
+    0x7F7D_0AA6, // mfdear r27
+];
+
+/// A page of TLB1 whose logical address is 0x3_0000_1000, by MAS7, and a store into it.
+pub const ABOVE: [u32; 17] = [
+    0x3C60_1001, // lis r3,4097
+    0x7C70_9BA6, // mtspr 624,r3
+    0x3C60_8000, // lis r3,-32768
+    0x6063_0100, // ori r3,r3,256
+    0x7C71_9BA6, // mtspr 625,r3
+    0x3D20_0400, // lis r9,1024
+    0x7D32_9BA6, // mtspr 626,r9
+    0x3860_1015, // li r3,4117
+    0x7C73_9BA6, // mtspr 627,r3
+    0x3860_0003, // li r3,3
+    0x7C70_EBA6, // mtspr 944,r3
+    0x7C00_07A4, // tlbwe
+    0x3CA0_1234, // lis r5,4660
+    0x60A5_5678, // ori r5,r5,22136
+    0x90A9_0008, // stw r5,8(r9)
+    0x8309_0008, // lwz r24,8(r9)
+    0x8320_0008, // lwz r25,8(0)
+];
+
+/// A page of 16 KiB over two regions with a page between them that none has: stores into both, and one across the end of
+/// the first.
+pub const OVER: [u32; 29] = [
+    0x4800_0024, // b 24
+    0x6000_0000, // nop
+    0x6000_0000, // nop
+    0x6000_0000, // nop
+    0x7F1A_8AA6, // mfmcsrr0 r24
+    0x8329_1FFC, // lwz r25,8188(r9)
+    0x90A9_3000, // stw r5,12288(r9)
+    0x8349_3000, // lwz r26,12288(r9)
+    0x4800_0000, // b 20
+    0x3860_0010, // li r3,16
+    0x7C71_63A6, // mtivor1 r3
+    0x3C60_1001, // lis r3,4097
+    0x7C70_9BA6, // mtspr 624,r3
+    0x3C60_8000, // lis r3,-32768
+    0x6063_0200, // ori r3,r3,512
+    0x7C71_9BA6, // mtspr 625,r3
+    0x3D20_0400, // lis r9,1024
+    0x7D32_9BA6, // mtspr 626,r9
+    0x3860_0015, // li r3,21
+    0x7C73_9BA6, // mtspr 627,r3
+    0x3860_0001, // li r3,1
+    0x7C70_EBA6, // mtspr 944,r3
+    0x7C00_07A4, // tlbwe
+    0x3860_1000, // li r3,4096
+    0x7C60_0124, // mtmsr r3
+    0x3CA0_1234, // lis r5,4660
+    0x60A5_5678, // ori r5,r5,22136
+    0x90A9_1FFC, // stw r5,8188(r9)
+    0x90A9_1FFE, // stw r5,8190(r9)
+];
+
+/// What `dcbz` clears in the last block of a region, and `stmw` and `lmw` across its end.
+pub const EDGE: [u32; 16] = [
+    0x3CA0_1234, // lis r5,4660
+    0x60A5_5678, // ori r5,r5,22136
+    0x3BC0_001E, // li r30,30
+    0x3BE0_001F, // li r31,31
+    0x90A0_1FBC, // stw r5,8124(0)
+    0x90A0_1FC0, // stw r5,8128(0)
+    0x90A0_1FFC, // stw r5,8188(0)
+    0x90A0_2000, // stw r5,8192(0)
+    0x38C0_1FE0, // li r6,8160
+    0x7C00_37EC, // dcbz 0,r6
+    0x8280_1FBC, // lwz r20,8124(0)
+    0x82A0_1FC0, // lwz r21,8128(0)
+    0x82C0_1FFC, // lwz r22,8188(0)
+    0x82E0_2000, // lwz r23,8192(0)
+    0xBFC0_1FFC, // stmw r30,8188(0)
+    0xBB80_1FF8, // lmw r28,8184(0)
+];

@@ -1,7 +1,7 @@
 //! Laws of the definition that no one call could state.
 
 ghost use Rattle.partition.specs.Refusal.{RefusalsAreQuiet};
-ghost use Rattle.partition.specs.Reached.{TranslationsStayApart, TranslationsStaySound, VictimsStayWays};
+ghost use Rattle.partition.specs.Reached.{TranslationsStaySound};
 
 /// A hypercall that is refused changes r3 alone, besides the clocks, the program counter and the count of steps. One
 /// that is done in part changes r4 and what is outstanding too.
@@ -9,9 +9,8 @@ pub fn refusals_are_quiet()
     ensures { RefusalsAreQuiet }
 {}
 
-/// No machine that an image can come to has two live translations for one access, and its next victim is a way of TLB0.
-pub fn translations_stay_apart()
-    ensures apart { TranslationsStayApart }
-    ensures sound { TranslationsStaySound }
-    ensures victim { VictimsStayWays }
+/// No machine that a description can come to has two live translations of a core for one access, and a next victim is a
+/// way of TLB0.
+pub fn translations_stay_sound()
+    ensures { TranslationsStaySound }
 {}

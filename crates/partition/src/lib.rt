@@ -2,26 +2,41 @@
 //!
 //! It stands on `core_step` for one instruction over translations and real memory, on `trap_emulate` for
 //! timers, interrupts and privileged instructions, on `guest_tlb` and `mas` for translations, on `guest_regs`,
-//! `insn` and `ground` for their types, on `outside` for the want of memory, and on `arrayvec` for bytes that
-//! are sent. For now it has the built-in machine alone: one core, 64 KiB of private memory at logical address 0,
-//! and one channel. The definition that it meets is the lone machine of `specs/Machine.antt`, with its step in
-//! `specs/Step.antt`, what the core finds at an address in `specs/Translated.antt` and its events in
-//! `specs/Event.antt`.
+//! `insn` and `ground` for their types, on `hcall_abi` for hypercalls, on `machine_desc` for descriptions and acts, on
+//! `fresh_load` and `memory_areas` for what its memory begins with, on `byte_channel` for ports in memory, on `outside`
+//! for the want of memory, and on `arrayvec` for bytes that are sent. For now a partition has one core.
+//!
+//! The definition that it meets is the machine of a description by itself, in `specs/Machine.antt`, with its step in
+//! `specs/Step.antt`, the hypercalls of byte channels in `specs/Channels.antt`, what a core finds at an address in `specs/Found.antt`, the ends of its channels in
+//! `specs/Port.antt`, what a step did in `specs/Act.antt` and its events in `specs/Event.antt`; `specs/Lending.antt` says
+//! what a partition stands for with what it is lent.
 #![tactic(auto)]
 
-mod call;
+mod acts;
+mod channels;
 mod clock;
-mod event;
-mod hypercall;
+mod cpu;
+mod found;
+mod handles;
+mod kind;
 mod laws;
-mod lone;
-mod translations;
+mod lone_machine;
+mod mem_end;
+mod mem_ports;
+mod partition;
+mod ports;
+mod served;
 
-pub use event::{Event, LoneStep};
-pub use laws::{refusals_are_quiet, translations_stay_apart};
-pub use lone::Lone;
-pub use translations::MEMORY_SIZE;
+pub use acts::Acts;
+pub use kind::Kind;
+pub use laws::{refusals_are_quiet, translations_stay_sound};
+pub use lone_machine::LoneMachine;
+pub use mem_ports::MemPorts;
+pub use partition::Partition;
+pub use ports::Ports;
 
+#[cfg(test)]
+mod drafts;
 #[cfg(test)]
 mod images;
 #[cfg(test)]

@@ -1,0 +1,366 @@
+//! One core of a partition: its step.
+
+ghost use Rattle.std.specs.Prelude.{◌≡◌, ◌+◌, ◌%◌, ◌≤◌, [], Some, IfOk, IsTrue, if◌then◌else◌};
+ghost use Rattle.ground.specs.Own.{own_of, KeepsForeign};
+ghost use Rattle.guest_regs.specs.Registers.{gpr_of};
+ghost use Rattle.core_step.specs.Access.{SameSizes};
+ghost use Rattle.core_step.specs.Step as core;
+ghost use Rattle.trap_emulate.specs.Entry.{may_enter};
+ghost use Rattle.machine_desc.specs.Sound.{IsSound};
+ghost use Rattle.fresh_load.specs.Placed.{ArePlaced, extents_of};
+ghost use Rattle.hcall_abi.specs.Call.{call_of};
+ghost use Rattle.hcall_abi.specs.Reply.{reply_of};
+ghost use Rattle.partition.specs.Regions.{areas_of};
+ghost use Rattle.partition.specs.Found.{lookup_in};
+ghost use Rattle.partition.specs.Port.{kinds_of, kind_at, end_at};
+ghost use Rattle.partition.specs.Act as spec_act;
+ghost use Rattle.partition.specs.Act.{act_of, ports_after};
+ghost use Rattle.partition.specs.Machine.{booted, shape_of};
+ghost use Rattle.partition.specs.Step as spec;
+ghost use Rattle.partition.specs.Lending.{Did, HasBytes, HasHandle, IsCoreStepped, KeepsUnbuilt};
+
+use crate::acts::{Acts, shared_ranges};
+use crate::channels::{poll, receive, refusal, send};
+use crate::clock::{Clocks, begin};
+use crate::found::{Found, View, find};
+use crate::ports::Ports;
+use crate::served::Served;
+use arrayvec::ArrayVec;
+use core_step::{Core, Hw};
+use ground::Ground;
+use guest_regs::{boot, order_syndrome, store_syndrome};
+use guest_tlb::GuestTlb;
+use hcall_abi::{Call, Status, set_reply};
+use insn::Insn;
+use machine_desc::{Act, Desc};
+use outside::NoMemory;
+use std::alloc::Global;
+use std::marker::Model;
+use trap_emulate::{
+    Cause, Mmu, are_interrupts_enabled, deliver, emulate, is_decrementer_pending, may_enter,
+};
+
+/// A core with its translations. Contracts see the record `Cpu` of the machine's definition.
+#[derive(Drop)]
+pub struct Cpu {
+    core: Core,
+    mmu: Mmu,
+}
+
+impl Model for Cpu {
+    ghost use Rattle.partition.specs.Machine.{Cpu};
+
+    ghost Value = { Cpu };
+
+    ghost view = { λ cpu. record {
+      registers = cpu.core.registers;
+      translations = cpu.mmu.tlb;
+      next_victim = cpu.mmu.nv;
+    } };
+}
+
+impl Cpu {
+    /// The core as its program starts, with the initial area alone translated. Fails only where memory runs out.
+    #[tactic(auto, unfolding(crate::specs::Machine::booted))]
+    pub fn booted(alloc: Global, entry: u32, tree_at: u32, number: u32) -> Result<Cpu, NoMemory>
+        requires { entry % 4 ≡ 0 }
+        ensures { IfOk result (λ cpu. cpu ≡ booted entry tree_at number) }
+    {
+        Ok(Cpu {
+            core: Core::new(boot(entry, tree_at, number)),
+            mmu: Mmu {
+                tlb: GuestTlb::new(alloc)?,
+                nv: 0,
+            },
+        })
+    }
+
+    /// The core that does its instructions.
+    pub fn core(&self) -> &Core
+        ensures { result.now.registers ≡ self.now.registers }
+    {
+        &self.core
+    }
+
+    /// Does one step: its time passes, and it enters an interrupt, waits, or does an instruction. Where that isn't built,
+    /// all is as before.
+    #[tactic(auto)]
+    pub fn step<P: Ports>(&mut self, desc: &Desc, ground: &mut Ground, ports: &mut P) -> Acts
+        requires sound { IsSound desc.now }
+        requires placed { ArePlaced ground.old desc.now.regions }
+        requires kinds { P.kinds ports.old ≡ kinds_of desc.now.ports }
+        ensures stepped { IsCoreStepped (extents_of desc.now.regions)
+            (spec.core_step (shape_of desc.now) self.old (P.seen ports.old) (own_of (extents_of desc.now.regions) ground.old))
+            self.new ground.new result.act result.shared.items }
+        ensures kept { KeepsUnbuilt result.act self.old self.new }
+        ensures memory { KeepsUnbuilt result.act ground.old ground.new }
+        ensures others { KeepsForeign (extents_of desc.now.regions) ground.old ground.new }
+        ensures sizes { SameSizes ground.old ground.new }
+        ensures bytes { HasBytes result.act }
+        ensures handle { HasHandle (kinds_of desc.now.ports) result.act }
+        ensures seen { P.seen ports.new ≡ ports_after (act_of result.act) (P.seen ports.old) }
+        ensures same { P.kinds ports.new ≡ P.kinds ports.old }
+        ensures did { Did P.sends P.takes result.act ports.old ports.new }
+    {
+        let clocks = self.clocks();
+        self.begin();
+        let acts = self.act(desc, ground, ports);
+        match acts.act {
+            Act::NotBuilt => {
+                self.take_back(clocks);
+                only(Act::NotBuilt)
+            }
+            _ => acts,
+        }
+    }
+
+    /// The clocks before the step.
+    fn clocks(&self) -> Clocks
+        ensures { result ≡ record { time = self.now.registers.time; dec = self.now.registers.dec; tsr = self.now.registers.tsr; idle = self.now.registers.idle } }
+    {
+        Clocks::of(self.core.regs())
+    }
+
+    /// Takes the beginning of a step back.
+    fn take_back(&mut self, clocks: Clocks)
+        ensures { self.new ≡ record self.old {
+          registers = record self.old.registers { time = clocks.time; dec = clocks.dec; tsr = clocks.tsr; idle = clocks.idle };
+        } }
+    {
+        clocks.restore(self.core.regs_mut());
+    }
+
+    /// Lets the step's time pass.
+    #[tactic(auto, unfolding(crate::specs::Step::begun))]
+    fn begin(&mut self)
+        ensures { self.new ≡ spec.begun self.old }
+    {
+        begin(self.core.regs_mut());
+    }
+
+    /// Does what the step is for, after its time has passed.
+    #[tactic(auto, unfolding(crate::specs::Step::acted))]
+    fn act<P: Ports>(&mut self, desc: &Desc, ground: &mut Ground, ports: &mut P) -> Acts
+        requires sound { IsSound desc.now }
+        requires placed { ArePlaced ground.old desc.now.regions }
+        requires kinds { P.kinds ports.old ≡ kinds_of desc.now.ports }
+        ensures acted { IsCoreStepped (extents_of desc.now.regions)
+            (spec.acted (shape_of desc.now) self.old (P.seen ports.old) (own_of (extents_of desc.now.regions) ground.old))
+            self.new ground.new result.act result.shared.items }
+        ensures kept { KeepsUnbuilt result.act self.old self.new }
+        ensures memory { KeepsUnbuilt result.act ground.old ground.new }
+        ensures others { KeepsForeign (extents_of desc.now.regions) ground.old ground.new }
+        ensures sizes { SameSizes ground.old ground.new }
+        ensures bytes { HasBytes result.act }
+        ensures handle { HasHandle (kinds_of desc.now.ports) result.act }
+        ensures seen { P.seen ports.new ≡ ports_after (act_of result.act) (P.seen ports.old) }
+        ensures same { P.kinds ports.new ≡ P.kinds ports.old }
+        ensures did { Did P.sends P.takes result.act ports.old ports.new }
+    {
+        let regs = self.core.regs();
+        if is_decrementer_pending(regs) && are_interrupts_enabled(regs) {
+            self.enter(Cause::Decrementer);
+            return only(Act::None);
+        }
+        if regs.idle() {
+            return only(Act::None);
+        }
+        self.instruct(desc, ground, ports)
+    }
+
+    /// Does an instruction, and what comes of it.
+    fn instruct<P: Ports>(&mut self, desc: &Desc, ground: &mut Ground, ports: &mut P) -> Acts
+        requires sound { IsSound desc.now }
+        requires placed { ArePlaced ground.old desc.now.regions }
+        requires kinds { P.kinds ports.old ≡ kinds_of desc.now.ports }
+        ensures done { IsCoreStepped (extents_of desc.now.regions)
+            (spec.instruction (shape_of desc.now) self.old (P.seen ports.old) (own_of (extents_of desc.now.regions) ground.old))
+            self.new ground.new result.act result.shared.items }
+        ensures kept { KeepsUnbuilt result.act self.old self.new }
+        ensures memory { KeepsUnbuilt result.act ground.old ground.new }
+        ensures others { KeepsForeign (extents_of desc.now.regions) ground.old ground.new }
+        ensures sizes { SameSizes ground.old ground.new }
+        ensures bytes { HasBytes result.act }
+        ensures handle { HasHandle (kinds_of desc.now.ports) result.act }
+        ensures seen { P.seen ports.new ≡ ports_after (act_of result.act) (P.seen ports.old) }
+        ensures same { P.kinds ports.new ≡ P.kinds ports.old }
+        ensures did { Did P.sends P.takes result.act ports.old ports.new }
+    {
+        let answer = self.execute(desc, ground);
+        let shared = shared_ranges(desc.regions.as_slice(), &answer);
+        let act = self.handle(desc, answer, ports);
+        Acts { act, shared }
+    }
+
+    /// Does as much of an instruction as is the core's.
+    fn execute(&mut self, desc: &Desc, ground: &mut Ground) -> Hw
+        requires sound { IsSound desc.now }
+        requires placed { ArePlaced ground.old desc.now.regions }
+        ensures done { core.stepped (lookup_in (extents_of desc.now.regions) (areas_of desc.now.regions) self.old.translations) self.old.registers ground.old
+            ≡ record { answer = core.answered result; registers = self.new.registers; memory = ground.new } }
+        ensures kept { core.KeepsUnlessDone (core.answered result) self.old.registers self.new.registers ground.old ground.new }
+        ensures others { self.new ≡ record self.old { registers = self.new.registers } }
+        ensures sizes { SameSizes ground.old ground.new }
+    {
+        // What the slots keep: so each block that the core finds lies in the memory.
+        self.mmu.tlb.are_kept();
+        let mmu = &self.mmu;
+        let view = View {
+            tlb: &mmu.tlb,
+            regions: desc.regions.as_slice(),
+        };
+        self.core.step(&view, ground)
+    }
+
+    /// Does what the instruction's answer asks for.
+    #[tactic(auto, unfolding(crate::specs::Step::handled))]
+    fn handle<P: Ports>(&mut self, desc: &Desc, answer: Hw, ports: &mut P) -> Act
+        requires kinds { P.kinds ports.old ≡ kinds_of desc.now.ports }
+        ensures handled { spec.handled (shape_of desc.now) (core.answered answer) self.old (P.seen ports.old) ≡ record { cpu = self.new; act = act_of result } }
+        ensures kept { KeepsUnbuilt result self.old self.new }
+        ensures bytes { HasBytes result }
+        ensures handle { HasHandle (kinds_of desc.now.ports) result }
+        ensures seen { P.seen ports.new ≡ ports_after (act_of result) (P.seen ports.old) }
+        ensures same { P.kinds ports.new ≡ P.kinds ports.old }
+        ensures did { Did P.sends P.takes result ports.old ports.new }
+    {
+        match answer {
+            Hw::Retired(_) | Hw::Waiting => Act::None,
+            Hw::Sc => self.enter(Cause::Syscall),
+            Hw::Hcall => self.serve(desc, ports),
+            Hw::Priv(insn) => self.do_privileged(insn),
+            Hw::MissData { ea, store } => {
+                let space = self.core.regs().data_space();
+                if self.miss(desc, Cause::MissData { ea, store }, space, ea) {
+                    Act::None
+                } else {
+                    Act::Faulted
+                }
+            }
+            Hw::MissInsn { ea } => {
+                let space = self.core.regs().instruction_space();
+                if self.miss(desc, Cause::MissInsn { ea }, space, ea) {
+                    Act::None
+                } else {
+                    Act::Faulted
+                }
+            }
+            Hw::StorageData { ea, store, little } => {
+                let esr = store_syndrome(store) + order_syndrome(little);
+                self.enter(Cause::StorageData { ea, esr })
+            }
+            Hw::StorageInsn { little } => self.enter(Cause::StorageInsn {
+                esr: order_syndrome(little),
+            }),
+            Hw::Align { ea, store } => self.enter(Cause::Align {
+                ea,
+                esr: store_syndrome(store),
+            }),
+            Hw::Program(esr) => self.enter(Cause::Program { esr }),
+            Hw::NoFloat => self.enter(Cause::NoFloat),
+        }
+    }
+
+    /// Enters an interrupt.
+    fn enter(&mut self, cause: Cause) -> Act
+        requires { IsTrue (may_enter cause self.old.registers) }
+        ensures entered { self.new ≡ spec.entered cause self.old }
+        ensures quiet { result ≡ Act.None }
+    {
+        deliver(self.core.regs_mut(), &mut self.mmu, cause);
+        Act::None
+    }
+
+    /// Takes a machine check, and says whether the partition runs on.
+    #[tactic(auto, unfolding(crate::specs::Step::checked))]
+    fn check(&mut self) -> bool
+        ensures { spec.checked self.old ≡ record { cpu = self.new; act = if result then spec_act.Nothing else spec_act.Faulted } }
+    {
+        if may_enter(self.core.regs(), Cause::MachineCheck) {
+            self.enter(Cause::MachineCheck);
+            return true;
+        }
+        false
+    }
+
+    /// Deals with an access that found no memory; the cause is its TLB error. Says whether the partition runs on.
+    fn miss(&mut self, desc: &Desc, cause: Cause, space: bool, ea: u32) -> bool
+        requires entered { IsTrue (may_enter cause self.old.registers) }
+        ensures { spec.missed cause (spec.found_for (areas_of desc.now.regions) self.old space ea) self.old
+            ≡ record { cpu = self.new; act = if result then spec_act.Nothing else spec_act.Faulted } }
+    {
+        let pid = self.core.regs().pid();
+        match find(&self.mmu.tlb, desc.regions.as_slice(), space, pid, ea) {
+            Found::Missing => {
+                self.enter(cause);
+                true
+            }
+            Found::Unbacked | Found::Backed(_) => self.check(),
+        }
+    }
+
+    /// Does a privileged instruction for the system.
+    #[tactic(auto, unfolding(crate::specs::Step::privileged))]
+    fn do_privileged(&mut self, insn: Insn) -> Act
+        ensures done { self.new ≡ spec.privileged insn self.old }
+        ensures quiet { result ≡ Act.None }
+    {
+        emulate(&insn, self.core.regs_mut(), &mut self.mmu);
+        Act::None
+    }
+
+    /// Does the hypercall that r11 asks for.
+    #[tactic(auto, using(crate::proofs::Steps::keeps_built), unfolding(crate::specs::Step::served))]
+    fn serve<P: Ports>(&mut self, desc: &Desc, ports: &mut P) -> Act
+        requires kinds { P.kinds ports.old ≡ kinds_of desc.now.ports }
+        ensures served { let asked = call_of (gpr_of self.old.registers 11) in
+            spec.served (kinds_of desc.now.ports) asked self.old (P.seen ports.old) ≡ record { cpu = self.new; act = act_of result } }
+        ensures kept { KeepsUnbuilt result self.old self.new }
+        ensures bytes { HasBytes result }
+        ensures handle { HasHandle (kinds_of desc.now.ports) result }
+        ensures seen { P.seen ports.new ≡ ports_after (act_of result) (P.seen ports.old) }
+        ensures same { P.kinds ports.new ≡ P.kinds ports.old }
+        ensures did { Did P.sends P.takes result ports.old ports.new }
+    {
+        let handles = desc.ports.as_slice();
+        match Call::of(self.core.regs()) {
+            Call::Send => {
+                let served = send(handles, self.core.regs(), ports);
+                self.answer(served)
+            }
+            Call::Receive => {
+                let served = receive(handles, self.core.regs(), ports);
+                self.answer(served)
+            }
+            Call::Poll => {
+                let served = poll(handles, self.core.regs(), ports);
+                self.answer(served)
+            }
+            Call::Unlisted => self.answer(refusal(Status::Unimplemented)),
+            _ => Act::NotBuilt,
+        }
+    }
+
+    /// Gives the caller its reply, and lets it go on after its `sc`.
+    #[tactic(auto, unfolding(crate::specs::Step::answered))]
+    fn answer(&mut self, served: Served) -> Act
+        ensures answered { self.new ≡ spec.answered (reply_of served.reply) self.old }
+        ensures act { result ≡ served.act }
+    {
+        let Served { reply, act } = served;
+        set_reply(self.core.regs_mut(), &reply);
+        self.core.regs_mut().advance();
+        act
+    }
+}
+
+/// A step that wrote nothing into shared regions.
+fn only(act: Act) -> Acts
+    ensures act { result.act ≡ act }
+    ensures shared { result.shared.items ≡ [] }
+{
+    Acts {
+        act,
+        shared: ArrayVec::new(),
+    }
+}

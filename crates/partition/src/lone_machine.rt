@@ -1,0 +1,155 @@
+//! A lone machine: a partition with real memory of its own and with ports in memory.
+
+ghost use Rattle.std.specs.Prelude.{◌≡◌, ℕ, ◌+◌, ◌<◌, ◌≤◌, true, List, Some, length, IfOk, IfSome};
+ghost use Rattle.std.specs.List.{list_all};
+ghost use Rattle.ground.specs.Extents.{AreSmall};
+ghost use Rattle.machine_desc.specs.Sound.{IsSound};
+ghost use Rattle.fresh_load.specs.Placed.{extents_of};
+ghost use Rattle.partition.specs.Port.{kinds_of, kind_at, end_at};
+ghost use Rattle.partition.specs.Act.{act_of, ports_after, state_after, steps_after};
+ghost use Rattle.partition.specs.Machine.{most_steps, fresh, core_at, place_in};
+ghost use Rattle.partition.specs.Event.{Room, Bytes, apply};
+ghost use Rattle.partition.specs.Step as spec;
+ghost use Rattle.partition.specs.Lending.{HasBytes, HasHandle, IsOutstanding, IsStepped, KeepsUnbuilt};
+ghost use Rattle.partition.specs.Loading.{have_extents};
+
+use crate::acts::Acts;
+use crate::kind::Kind;
+use crate::mem_ports::MemPorts;
+use crate::partition::Partition;
+use core_step::Core;
+use fresh_load::load;
+use ground::Ground;
+use machine_desc::{Desc, State};
+use memory_areas::AreaMap;
+use outside::NoMemory;
+use std::alloc::Global;
+use std::marker::Model;
+
+/// A described machine by itself. Contracts see its description and the machine of its definition. Only `new` takes memory.
+#[derive(Drop)]
+pub struct LoneMachine {
+    part: Partition,
+    memory: Ground,
+    ports: MemPorts,
+}
+
+impl Model for LoneMachine {
+    ghost use Rattle.std.specs.Prelude.{◌≡◌, length};
+    ghost use Rattle.fresh_load.specs.Placed.{ArePlaced};
+    ghost use Rattle.partition.specs.Port.{kinds_of};
+    ghost use Rattle.partition.specs.MemPorts.{ends_of, sorts_of};
+    ghost use Rattle.partition.specs.Lending.{machine_of};
+    ghost use Rattle.partition.specs.Loading.{Lone};
+
+    ghost Value = { Lone };
+
+    ghost view = { λ lone. record { desc = lone.part.desc; machine = machine_of lone.part (ends_of lone.ports) lone.memory } };
+
+    ghost invariant = { λ lone. ArePlaced lone.memory lone.part.desc.regions × (sorts_of lone.ports ≡ kinds_of lone.part.desc.ports) };
+}
+
+impl LoneMachine {
+    /// The machine of a sound description of one core before its first step, over extents of these sizes in bytes, among
+    /// which are those of its regions; all of them together have a GiB at most. Fails only where memory runs out.
+    #[tactic(auto, using(crate::proofs::Zeros::zeros_placed, crate::proofs::Zeros::zeros_shared), unfolding(crate::specs::Machine::fresh))]
+    pub fn new(alloc: Global, desc: Desc, sizes: &[u32]) -> Result<LoneMachine, NoMemory>
+        requires sound { IsSound desc }
+        requires core { length desc.cores ≡ 1 }
+        requires small { AreSmall sizes.now }
+        requires extents { have_extents sizes.now desc.regions ≡ true }
+        ensures fresh { IfOk result (λ lone. lone ≡ record { desc = desc; machine = fresh desc }) }
+    {
+        let mut memory = Ground::new(alloc, sizes)?;
+        let map = AreaMap::new(alloc, &desc)?;
+        load(&desc, &map, &mut memory);
+        let ports = MemPorts::new(alloc, desc.ports.as_slice())?;
+        let part = Partition::new(alloc, desc)?;
+        Ok(LoneMachine {
+            part,
+            memory,
+            ports,
+        })
+    }
+
+    /// Whether it does steps.
+    pub fn state(&self) -> State
+        ensures { result ≡ self.now.machine.inner.state }
+    {
+        self.part.state()
+    }
+
+    /// How many steps its cores have done together.
+    pub fn steps(&self) -> u64
+        ensures { result ≡ self.now.machine.inner.steps }
+    {
+        self.part.steps()
+    }
+
+    /// Its description.
+    pub fn desc(&self) -> &Desc
+        ensures { result.now ≡ self.now.desc }
+    {
+        self.part.desc()
+    }
+
+    /// The core at this place.
+    pub fn core(&self, core: usize) -> &Core
+        requires { core < length self.now.machine.inner.cores }
+        ensures { result.now.registers ≡ (core_at self.now.machine.inner.cores core).registers }
+    {
+        self.part.core(core)
+    }
+
+    /// The place of the core with this physical number, and none where it is no core of the partition.
+    pub fn place_of(&self, number: u32) -> Option<usize>
+        ensures value { result ≡ place_in self.now.desc.cores number }
+        ensures there { IfSome result (λ place. place < length self.now.machine.inner.cores) }
+    {
+        self.part.place_of(number)
+    }
+
+    /// Does one step of the core at this place.
+    #[tactic(auto, using(crate::proofs::Ends::is_outstanding, crate::proofs::Ends::steps_rise))]
+    pub fn step(&mut self, core: usize) -> Acts
+        requires core { core < length self.old.machine.inner.cores }
+        requires running { self.old.machine.inner.state ≡ State.Running }
+        requires few { self.old.machine.inner.steps < most_steps }
+        ensures stepped { (feed : List ℕ) → IsStepped (extents_of self.old.desc.regions) (spec.step self.old.desc self.old.machine core feed)
+            self.new.machine result.act result.shared.items }
+        ensures desc { self.new.desc ≡ self.old.desc }
+        ensures cores { length self.new.machine.inner.cores ≡ length self.old.machine.inner.cores }
+        ensures state { self.new.machine.inner.state ≡ state_after (act_of result.act) }
+        ensures counted { self.new.machine.inner.steps ≡ steps_after (act_of result.act) self.old.machine.inner.steps }
+        ensures risen { self.old.machine.inner.steps ≤ self.new.machine.inner.steps }
+        ensures once { self.new.machine.inner.steps ≤ self.old.machine.inner.steps + 1 }
+        ensures ports { self.new.machine.ports ≡ ports_after (act_of result.act) self.old.machine.ports }
+        ensures kept { KeepsUnbuilt result.act self.old self.new }
+        ensures outstanding { IsOutstanding result.act self.new.machine.ports }
+        ensures bytes { HasBytes result.act }
+        ensures handle { HasHandle (kinds_of self.old.desc.ports) result.act }
+    {
+        self.part.step(core, &mut self.memory, &mut self.ports)
+    }
+
+    /// Bytes come on a channel, which has room for them.
+    #[tactic(auto, unfolding(crate::specs::Event::apply))]
+    pub fn give(&mut self, h: u32, bytes: &[u8])
+        requires channel { kind_at (kinds_of self.old.desc.ports) h ≡ Some Kind.Channel }
+        requires room { length (end_at self.old.machine.ports h).received + length bytes.now ≤ 256 }
+        ensures { self.new ≡ record self.old { machine = apply self.old.desc self.old.machine (Bytes h bytes.now) } }
+    {
+        self.ports.give(h, bytes);
+    }
+
+    /// The other end of a channel takes the first of the bytes that were sent there, as many as fit into the slice, which
+    /// so many wait for.
+    #[tactic(auto, unfolding(crate::specs::Event::apply))]
+    pub fn free(&mut self, h: u32, into: &mut [u8])
+        requires channel { kind_at (kinds_of self.old.desc.ports) h ≡ Some Kind.Channel }
+        requires sent { length into.old ≤ (end_at self.old.machine.ports h).outstanding }
+        ensures { self.new ≡ record self.old { machine = apply self.old.desc self.old.machine (Room h (length into.old)) } }
+    {
+        self.ports.free(h, into);
+    }
+}

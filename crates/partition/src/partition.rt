@@ -1,0 +1,206 @@
+//! A partition: its machine but for its memory and for the ends of its channels, which it is lent.
+
+ghost use Rattle.std.specs.Prelude.{◌≡◌, ℕ, ◌<◌, ◌≤◌, ◌↔◌, List, length, slice_set, IfOk, IfSome};
+ghost use Rattle.ground.specs.Own.{own_of, KeepsForeign};
+ghost use Rattle.core_step.specs.Access.{SameSizes};
+ghost use Rattle.machine_desc.specs.Sound.{IsSound};
+ghost use Rattle.fresh_load.specs.Placed.{ArePlaced, extents_of};
+ghost use Rattle.partition.specs.Port.{kinds_of};
+ghost use Rattle.partition.specs.Act.{act_of, ports_after, state_after, steps_after};
+ghost use Rattle.partition.specs.Machine.{most_steps, fresh_inner, shape_of, core_at, place_in};
+ghost use Rattle.partition.specs.Calling.{IsUnbuilt};
+ghost use Rattle.partition.specs.Step as spec;
+ghost use Rattle.partition.specs.Lending.{Part, machine_of, Did, HasBytes, HasHandle, IsCoreStepped, IsStepped, KeepsUnbuilt};
+
+use crate::acts::Acts;
+use crate::cpu::Cpu;
+use crate::ports::Ports;
+use core_step::Core;
+use ground::Ground;
+use machine_desc::{Act, Desc, State};
+use outside::NoMemory;
+use std::alloc::Global;
+use std::marker::Model;
+
+/// A partition of a described machine. With the ports and the real memory that it is lent for a step it stands for one
+/// lone machine: contracts see its description and what it holds by itself. Only `new` takes memory.
+#[derive(Drop)]
+pub struct Partition {
+    desc: Desc,
+    cores: Vec<Cpu>,
+    state: State,
+    steps: u64,
+}
+
+impl Model for Partition {
+    ghost use Rattle.std.specs.Prelude.{◌≡◌, length};
+    ghost use Rattle.machine_desc.specs.Sound.{IsSound};
+    ghost use Rattle.partition.specs.Lending.{Part};
+
+    ghost Value = { Part };
+
+    ghost view = { λ part. record {
+      desc = part.desc;
+      inner = record { cores = part.cores.items; state = part.state; steps = part.steps };
+    } };
+
+    ghost invariant = { λ part. IsSound part.desc × (length part.cores.items ≡ length part.desc.cores) };
+}
+
+impl Partition {
+    /// The partition of a sound description of one core before its first step. Fails only where memory runs out.
+    pub fn new(alloc: Global, desc: Desc) -> Result<Partition, NoMemory>
+        requires sound { IsSound desc }
+        requires core { length desc.cores ≡ 1 }
+        ensures fresh { IfOk result (λ part. part ≡ record { desc = desc; inner = fresh_inner desc }) }
+    {
+        let cpu = Cpu::booted(alloc, desc.entry, desc.tree_at as u32, 0)?;
+        let mut cores = Vec::with_capacity(alloc, 1)?;
+        cores.push(cpu)?;
+        let state = if desc.held {
+            State::Stopped
+        } else {
+            State::Running
+        };
+        Ok(Partition {
+            desc,
+            cores,
+            state,
+            steps: 0,
+        })
+    }
+
+    /// The description that it was made of.
+    pub fn desc(&self) -> &Desc
+        ensures value { result.now ≡ self.now.desc }
+        ensures sound { IsSound result.now }
+    {
+        &self.desc
+    }
+
+    /// Whether it does steps.
+    pub fn state(&self) -> State
+        ensures { result ≡ self.now.inner.state }
+    {
+        self.state
+    }
+
+    /// How many steps its cores have done together.
+    pub fn steps(&self) -> u64
+        ensures { result ≡ self.now.inner.steps }
+    {
+        self.steps
+    }
+
+    /// The core at this place.
+    pub fn core(&self, core: usize) -> &Core
+        requires { core < length self.now.inner.cores }
+        ensures { result.now.registers ≡ (core_at self.now.inner.cores core).registers }
+    {
+        self.cores[core].core()
+    }
+
+    /// The place of the core with this physical number, and none where it is no core of the partition.
+    pub fn place_of(&self, number: u32) -> Option<usize>
+        ensures value { result ≡ place_in self.now.desc.cores number }
+        ensures there { IfSome result (λ place. place < length self.now.inner.cores) }
+    {
+        place_in(self.desc.cores.as_slice(), number)
+    }
+
+    /// Does one step of the core at this place, over the real memory and with the ends of the partition's channels. The
+    /// machine does what is defined of it, and no byte outside the extents of its regions changes.
+    ///
+    /// `NotBuilt` comes exactly for a hypercall with MSR[PR] clear whose token is that of a service that isn't built yet;
+    /// then all is as before.
+    pub fn step<P: Ports>(&mut self, core: usize, ground: &mut Ground, ports: &mut P) -> Acts
+        requires core { core < length self.old.inner.cores }
+        requires running { self.old.inner.state ≡ State.Running }
+        requires few { self.old.inner.steps < most_steps }
+        requires placed { ArePlaced ground.old self.old.desc.regions }
+        requires kinds { P.kinds ports.old ≡ kinds_of self.old.desc.ports }
+        ensures stepped { (feed : List ℕ) → IsStepped (extents_of self.old.desc.regions)
+            (spec.step self.old.desc (machine_of self.old (P.seen ports.old) ground.old) core feed)
+            (machine_of self.new (P.seen ports.new) ground.new) result.act result.shared.items }
+        ensures unbuilt { result.act ≡ Act.NotBuilt
+            ↔ IsUnbuilt (shape_of self.old.desc) (core_at self.old.inner.cores core) (own_of (extents_of self.old.desc.regions) ground.old) }
+        // What else others know of a step.
+        ensures desc { self.new.desc ≡ self.old.desc }
+        ensures cores { length self.new.inner.cores ≡ length self.old.inner.cores }
+        ensures state { self.new.inner.state ≡ state_after (act_of result.act) }
+        ensures counted { self.new.inner.steps ≡ steps_after (act_of result.act) self.old.inner.steps }
+        ensures kept { KeepsUnbuilt result.act self.old self.new }
+        ensures memory { KeepsUnbuilt result.act ground.old ground.new }
+        ensures others { KeepsForeign (extents_of self.old.desc.regions) ground.old ground.new }
+        ensures sizes { SameSizes ground.old ground.new }
+        ensures placed { ArePlaced ground.new self.new.desc.regions }
+        ensures bytes { HasBytes result.act }
+        ensures handle { HasHandle (kinds_of self.old.desc.ports) result.act }
+        ensures seen { P.seen ports.new ≡ ports_after (act_of result.act) (P.seen ports.old) }
+        ensures same { P.kinds ports.new ≡ P.kinds ports.old }
+        ensures did { Did P.sends P.takes result.act ports.old ports.new }
+    {
+        let acts = self.step_core(core, ground, ports);
+        self.settle(&acts.act);
+        acts
+    }
+
+    /// Does what the step is for its core.
+    fn step_core<P: Ports>(&mut self, core: usize, ground: &mut Ground, ports: &mut P) -> Acts
+        requires core { core < length self.old.inner.cores }
+        requires placed { ArePlaced ground.old self.old.desc.regions }
+        requires kinds { P.kinds ports.old ≡ kinds_of self.old.desc.ports }
+        ensures stepped { IsCoreStepped (extents_of self.old.desc.regions)
+            (spec.core_step (shape_of self.old.desc) (core_at self.old.inner.cores core) (P.seen ports.old) (own_of (extents_of self.old.desc.regions) ground.old))
+            (core_at self.new.inner.cores core) ground.new result.act result.shared.items }
+        ensures rest { self.new ≡ record self.old {
+          inner = record self.old.inner {
+            cores = slice_set self.old.inner.cores core (core_at self.new.inner.cores core);
+          };
+        } }
+        ensures kept { KeepsUnbuilt result.act self.old self.new }
+        ensures memory { KeepsUnbuilt result.act ground.old ground.new }
+        ensures others { KeepsForeign (extents_of self.old.desc.regions) ground.old ground.new }
+        ensures sizes { SameSizes ground.old ground.new }
+        ensures bytes { HasBytes result.act }
+        ensures handle { HasHandle (kinds_of self.old.desc.ports) result.act }
+        ensures seen { P.seen ports.new ≡ ports_after (act_of result.act) (P.seen ports.old) }
+        ensures same { P.kinds ports.new ≡ P.kinds ports.old }
+        ensures did { Did P.sends P.takes result.act ports.old ports.new }
+    {
+        self.cores[core].step(&self.desc, ground, ports)
+    }
+
+    /// Counts the step, and stops where it says so.
+    fn settle(&mut self, act: &Act)
+        requires running { self.old.inner.state ≡ State.Running }
+        requires few { self.old.inner.steps < most_steps }
+        ensures { self.new ≡ record self.old {
+          inner = record self.old.inner {
+            state = state_after (act_of act.now);
+            steps = steps_after (act_of act.now) self.old.inner.steps;
+          };
+        } }
+    {
+        match act {
+            Act::NotBuilt => {}
+            Act::Faulted => {
+                self.state = State::Faulted;
+                self.steps += 1;
+            }
+            Act::SelfStop => {
+                self.state = State::Stopped;
+                self.steps += 1;
+            }
+            _ => self.steps += 1,
+        }
+    }
+}
+
+/// The place of a number in a list.
+fn place_in(cores: &[u32], number: u32) -> Option<usize>
+    ensures value { result ≡ place_in cores.now number }
+    ensures there { IfSome result (λ place. place < length cores.now) }
+{
+    cores.iter().position(|core| *core == number)
+}
