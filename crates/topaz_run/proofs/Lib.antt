@@ -2,6 +2,9 @@ pub mod Choices
 pub mod Plans
 pub mod Lines
 pub mod Spellings
+pub mod Freed
+pub mod Counts
+pub mod BuiltIns
 pub mod Turns
 pub mod Blobs
 pub mod Checks

@@ -3,7 +3,9 @@ pub mod Text
 pub mod Gathered
 pub mod Words
 pub mod Meant
+pub mod Printed
 pub mod Report
+pub mod BuiltIn
 pub mod Plan
 pub mod Outcome
 pub mod Answers

@@ -11,10 +11,10 @@ use Rattle.hv_read.specs.Read.{Flaw, BlobRule, TreeRule, config_flaw, config_sai
 use Rattle.config_checks.specs.Rules.{first_broken}
 use Rattle.config_descs.specs.Numbered.{part_named}
 use Rattle.guest_tree.specs.Guest.{guest_blob}
-use Rattle.partition.specs.Machine.{memory_size}
 use Rattle.topaz_run.specs.Words.{Command, Bare, Dtb, Check, Guest, command_of}
 use Rattle.topaz_run.specs.Text.{accepted_line}
-use Rattle.topaz_run.specs.Report.{run, fresh}
+use Rattle.topaz_run.specs.Report.{run, opening}
+use Rattle.topaz_run.specs.BuiltIn.{memory_size, built_in, built_in_wiring, built_in_schedule}
 use Rattle.topaz_run.specs.Plan.{Outcome, Misused, Lacking, Refused, Done, Plan, Ends, Opens, refusal, outcome_of, needs_of}
 
 -- ---- bare
@@ -27,7 +27,7 @@ reported is_built text = if is_built then Done text else Refused text
 unfoldable pub bare : List ℕ → ℕ → List ℕ → Outcome
 bare name turns image =
     if nat_lt memory_size (length image) then refusal (codes "I4") name
-    else let whole = run turns (fresh image) in reported whole.is_built whole.text
+    else let whole = run built_in_schedule turns 0 (opening (built_in image) built_in_wiring) in reported whole.is_built whole.text
 
 -- ---- dtb
 

@@ -2,7 +2,7 @@
 use Rattle.std.specs.Prelude.{ℕ, List, [], ◌∷◌, Option, None, Some, nat_lt, length, codes, if◌then◌else◌}
 use Rattle.outside.specs.Limit.{file_limit}
 use Rattle.outside.specs.Content.{Content, file_of, cut}
-use Rattle.topaz_run.specs.Text.{refused_line}
+use Rattle.trace_text.specs.Refusals.{refused_line}
 
 pub data Outcome : Type 0 where
   -- the words are of no form

@@ -7,12 +7,12 @@ ghost use Rattle.topaz_run.specs.Plan.{outcome_of, needs_of};
 ghost use Rattle.topaz_run.specs.Outcome.{bare, plan_of};
 ghost use Rattle.topaz_run.specs.Answers.{Meets};
 
+use crate::built_in::{MEMORY_SIZE, description, wiring};
 use crate::read::read_file;
 use crate::refuse::refused;
 use crate::run::run;
 use crate::status::Stop;
 use outside::{Bytes, Files};
-use partition::MEMORY_SIZE;
 use std::alloc::Global;
 
 /// Reads the image of that name, and answers what its run writes.
@@ -38,5 +38,7 @@ fn run_image(alloc: Global, name: &str, image: &[u8], turns: u64) -> Result<Byte
     if image.len() > MEMORY_SIZE as usize {
         return Err(refused(alloc, "I4", name));
     }
-    run(alloc, image, turns)
+    let desc = description(alloc, image)?;
+    let wiring = wiring(alloc)?;
+    run(alloc, desc, wiring, &[0], turns)
 }

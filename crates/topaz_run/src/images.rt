@@ -65,8 +65,45 @@ pub const CLOCK: [u32; 7] = [
 /// Loads from behind the memory.
 pub const UNBACKED: [u32; 2] = [0x3C60_0001, 0x8083_0000];
 
-/// Asks how many bytes wait, which no service tells yet.
-pub const POLL: [u32; 3] = [0x3D60_0001, 0x616B_0003, 0x4400_0022];
+/// Asks how much the channel takes, and sends the answer.
+pub const POLL: [u32; 10] = [
+    0x3D60_0001, // lis r11,1
+    0x616B_0003, // ori r11,r11,3
+    0x3860_0001, // li r3,1
+    0x4400_0022, // sc 1
+    0x3D60_0001, // lis r11,1
+    0x616B_0001, // ori r11,r11,1
+    0x3860_0001, // li r3,1
+    0x3880_0004, // li r4,4
+    0x4400_0022, // sc 1
+    0x4800_0000, // b .
+];
+
+/// Receives four bytes where none wait, and sends how many came and what r5 to r7 then hold.
+pub const RECEIVE: [u32; 15] = [
+    0x3D60_0001, // lis r11,1
+    0x616B_0002, // ori r11,r11,2
+    0x3860_0001, // li r3,1
+    0x3880_0004, // li r4,4
+    0x38A0_0055, // li r5,0x55
+    0x4400_0022, // sc 1
+    0x7CA6_2B78, // mr r6,r5
+    0x7C87_2378, // mr r7,r4
+    0x7C65_1B78, // mr r5,r3
+    0x3D60_0001, // lis r11,1
+    0x616B_0001, // ori r11,r11,1
+    0x3860_0001, // li r3,1
+    0x3880_000C, // li r4,12
+    0x4400_0022, // sc 1
+    0x4800_0000, // b .
+];
+
+/// Waits for an interrupt by a service that isn't built yet.
+pub const NOT_BUILT: [u32; 3] = [
+    0x3D60_0001, // lis r11,1
+    0x616B_0010, // ori r11,r11,16
+    0x4400_0022, // sc 1
+];
 
 /// Has a user program try all that is privileged, and sends how often it was refused and which bits ESR had but that of
 /// privilege.

@@ -1,7 +1,7 @@
 //! The top call: what the words of the command line mean, from the files that they name to the bytes that
 //! are written.
 //!
-//! It stands on `outside` (files and sinks), `partition` (the machine), `dt_model`, `dt_read` and `dt_write` (blobs),
+//! It stands on `outside` (files and sinks), `machine_desc` and `partition` (the machine), `dt_model`, `dt_read` and `dt_write` (blobs),
 //! `hv_config`, `hv_read` and `config_rules` (configurations and hardware), and `guest_tree`. Its contract is the main
 //! theorem: the status and the bytes written are those of `outcome`, in `specs/Outcome.antt`, and each other answer has
 //! its cause.
@@ -9,8 +9,10 @@
 
 mod accepting;
 mod bare;
+mod built_in;
 mod check;
 mod command;
+mod consoles;
 mod deliver;
 mod dtb;
 mod gathered;

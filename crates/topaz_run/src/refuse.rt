@@ -7,11 +7,12 @@ ghost use Rattle.topaz_run.specs.Answers.{RefusesFault, RefusesMisread, Stops};
 
 use crate::gathered::Gathered;
 use crate::status::Stop;
-use crate::text::{write_refused, write_refused_blob, write_refused_rule};
+use crate::text::{write_refused_blob, write_refused_rule};
 use hv_config::{Fault, Rule};
 use hv_read::Misread;
 use outside::Failed;
 use std::alloc::Global;
+use trace_text::refused_line;
 
 /// The rule is broken at the place.
 pub fn refused(alloc: Global, rule: &str, place: &str) -> Stop
@@ -19,7 +20,7 @@ pub fn refused(alloc: Global, rule: &str, place: &str) -> Stop
     ensures no_fault { result ≢ Stop.ReadFault }
 {
     let mut text = Gathered::new(alloc);
-    match write_refused(&mut text, rule.as_bytes(), place.as_bytes()) {
+    match refused_line(&mut text, rule.as_bytes(), place.as_bytes()) {
         Ok(()) => Stop::Refused(text.into_bytes()),
         Err(Failed) => Stop::NoMemory,
     }

@@ -151,6 +151,18 @@ fn images_write_what_was_worked_out(rt: HostRuntime) -> Result<(), Fail> {
         (
             POLL.as_slice(),
             "9",
+            Status::Ok,
+            "guest 9 sent 1 00000100\nend guest running 9\nconsole con 4 0 0\n",
+        ),
+        (
+            RECEIVE.as_slice(),
+            "14",
+            Status::Ok,
+            "guest 14 sent 1 000000000000000000000000\nend guest running 14\nconsole con 12 0 0\n",
+        ),
+        (
+            NOT_BUILT.as_slice(),
+            "9",
             Status::Refused,
             "refused N1 at step 3\n",
         ),
