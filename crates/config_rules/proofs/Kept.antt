@@ -2,6 +2,7 @@
 use Rattle.std.proofs.Common.{◌≡◌, ℕ, ◌≤◌, Bool, true, false, ◌&&◌, ◌||◌, not, cond, ltb, List, [], ◌∷◌, ◌++◌, length, Option, Some, None, refl, sum_by, arith}
 use Rattle.std.specs.Prelude.{codes, find, nat_le}
 use Rattle.std.specs.List.{list_all, list_any}
+use Rattle.std.specs.Option.{option_map_or}
 use Rattle.std.proofs.lemmas.Bool.{and_from, or_parts}
 use Rattle.hv_config.specs.declared.config.AreaDef.{AreaDef}
 use Rattle.hv_config.specs.declared.config.ChannelDef.{ChannelDef}
@@ -17,15 +18,16 @@ use Rattle.config_checks.specs.Limits.{most_areas}
 use Rattle.config_checks.specs.Spot.{Spot, earlier, placed, at_place, first_inner, first_list, guest_spot, handle_spot, inner_list_spot, part_spot, list_spot}
 use Rattle.config_checks.specs.First.{first_from}
 use Rattle.config_checks.specs.Found.{has_area, has_target}
-use Rattle.config_checks.specs.Names.{misnamed, misnamed_part, misnamed_in, is_misnamed_part, is_misnamed_guest, is_misnamed_handle, is_long}
+use Rattle.config_checks.specs.Names.{misnamed, misnamed_part, misnamed_in, is_misnamed_part, is_misnamed_guest, is_misnamed_handle, is_long, is_reserved}
 use Rattle.config_checks.specs.Counts.{too_many, many_areas, many_parts, many_in}
 use Rattle.config_checks.specs.Areas.{ragged_area, high_area, overlapping_area, large_areas, is_ragged, is_high, areas_meet}
 use Rattle.config_checks.specs.Guests.{misplaced_guest, overlapping_guest, repeated_guest, misplaced_in, overlapping_in, repeated_in, is_misplaced, guests_meet, same_area}
 use Rattle.config_checks.specs.Cores.{miscounted_part, taking_part, is_miscounted, taking_at, share_core}
 use Rattle.config_checks.specs.Window.{windowless_part, is_windowless}
-use Rattle.config_checks.specs.Channels.{loose_channel, is_loose}
+use Rattle.config_checks.specs.Channels.{loose_channel, is_loose, is_console_char, has_console, is_bad_console, is_misprinting, misprinting_at, misprinting_channel}
 use Rattle.config_checks.specs.Managers.{own_manager, second_manager, own_in, second_in, manages}
 use Rattle.config_checks.specs.Rules.{breach, broken_list, broken_area, broken_guest, broken_part, broken_link, first_broken}
+use Rattle.config_rules.specs.Names.{is_free_name, has_plain_console}
 use Rattle.config_rules.proofs.Lists.{option_or-none, option_map-none, found_if-none, find-none, first_meeting-none, first_from-none, all-mono}
 
 -- ---- what is said of each list
@@ -58,6 +60,8 @@ manages_others part = list_all (λ (handle : HandleDef). not (manages part.name 
 -- ---- all of it
 
 pub record Kept (config : Config) : Type 0 where
+  pub free_names : list_all is_free_name config.parts ≡ true
+  pub plain_consoles : list_all has_plain_console config.channels ≡ true
   pub guests_named : list_all (guests_named config) config.parts ≡ true
   pub handles_named : list_all (handles_named config) config.parts ≡ true
   pub few_areas : length config.areas ≤ most_areas
@@ -134,9 +138,43 @@ all-guests : (config : Config) → misnamed_part config config.parts ≡ None �
 unfolding misnamed_part
 all-guests config e = first_from-none (misnamed_in config) (guests_named config) (named-guests config) [] config.parts e
 
+-- a name that is neither too long nor reserved
+free-name : (config : Config) (before : List PartDef) (part : PartDef) → misnamed_in config before part ≡ None → is_free_name part ≡ true
+free-name config before part e =
+    let named = elim (is_misnamed_part part) as (λ b. cond b (Some (part_spot part)) (first_inner part (find (is_misnamed_guest config.areas) part.areas) (find (is_misnamed_handle config) part.handles)) ≡ None → b ≡ false)
+    [ true ↦ λ e. absurd cc | false ↦ λ e. refl ] e in
+    unreserved (is_long part.name) (is_reserved part.name) named
+  where
+    unreserved : (long reserved : Bool) → (long || reserved) ≡ false → not reserved ≡ true
+    unreserved false false e = refl
+    unreserved false true e = absurd cc
+    unreserved true reserved e = absurd cc
+
+all-free : (config : Config) → misnamed_part config config.parts ≡ None → list_all is_free_name config.parts ≡ true
+unfolding misnamed_part
+all-free config e = first_from-none (misnamed_in config) is_free_name (free-name config) [] config.parts e
+
 all-handles : (config : Config) → misnamed_part config config.parts ≡ None → list_all (handles_named config) config.parts ≡ true
 unfolding misnamed_part
 all-handles config e = first_from-none (misnamed_in config) (handles_named config) (named-handles config) [] config.parts e
+
+-- ---- consoles
+
+second-false : (one other third : Bool) → (one || not other || third) ≡ false → other ≡ true
+second-false false true third e = refl
+second-false false false third e = absurd cc
+second-false true other third e = absurd cc
+
+plain-console : (before : List ChannelDef) (channel : ChannelDef) → misprinting_at before channel ≡ None → has_plain_console channel ≡ true
+plain-console before channel e =
+    elim channel.console as (λ console. option_map_or (is_bad_console before) console false ≡ false → option_map_or (list_all is_console_char) console true ≡ true) [
+      | None ↦ λ e. refl
+      | Some name ↦ λ e. second-false (is_long name) (list_all is_console_char name) (list_any (has_console name) before) e
+    ] (found_if-none (is_misprinting before channel) _ e)
+
+all-plain : (config : Config) → misprinting_channel config.channels ≡ None → list_all has_plain_console config.channels ≡ true
+unfolding misprinting_channel
+all-plain config e = first_from-none misprinting_at has_plain_console plain-console [] config.channels e
 
 -- ---- counts
 
@@ -310,6 +348,7 @@ parts-none config board e =
 
 record Links (config : Config) : Type 0 where
   tight : loose_channel config.parts config.channels ≡ None
+  printing : misprinting_channel config.channels ≡ None
   others : own_manager config.parts ≡ None
   once : second_manager config.parts ≡ None
 
@@ -319,7 +358,7 @@ links-none config e =
     let a = option_or-none _ _ e in
     let b = option_or-none _ _ a.1 in
     let c = option_or-none _ _ b.1 in
-    record { tight = breach-none 19 _ a.0; others = breach-none 21 _ c.0; once = breach-none 22 _ c.1 }
+    record { tight = breach-none 19 _ a.0; printing = breach-none 20 _ b.0; others = breach-none 21 _ c.0; once = breach-none 22 _ c.1 }
 
 pub kept : (config : Config) (board : Board) → first_broken config board ≡ None → Kept config
 unfolding first_broken
@@ -334,6 +373,8 @@ kept config board e =
     let parts = parts-none config board d.0 in
     let links = links-none config d.1 in
     record {
+      free_names = all-free config lists.0;
+      plain_consoles = all-plain config links.printing;
       guests_named = all-guests config lists.0;
       handles_named = all-handles config lists.0;
       few_areas = lists.1;

@@ -17,7 +17,8 @@ use Rattle.config_checks.specs.Cores.{is_miscounted}
 use Rattle.config_checks.specs.Window.{holds_window, is_windowless}
 use Rattle.config_descs.specs.Desc.{region_of, desc_of, descs_of}
 use Rattle.config_rules.specs.Accepted.{IsAccepted}
-use Rattle.config_rules.specs.Parts.{is_small, has_window, KeepsParts}
+use Rattle.config_rules.specs.Names.{KeepsNames}
+use Rattle.config_rules.specs.Parts.{is_small, has_one_core, has_window, KeepsParts}
 use Rattle.config_rules.proofs.Lists.{all-both, all-mono, any-map}
 use Rattle.config_rules.proofs.Kept.{Kept, kept, few_in}
 use Rattle.config_rules.proofs.Sound.{one_core}
@@ -28,6 +29,9 @@ small : (part : PartDef) → few_in part ≡ true → not (is_miscounted part) �
 small part few counted =
     let both = and_parts (nat_le (length part.areas) most_regions) (nat_le (length part.handles) most_handles) few in
     rw (one_core part counted) (and_from _ _ (and_from _ _ both.0 both.1) refl)
+
+one : (part : PartDef) → not (is_miscounted part) ≡ true → has_one_core part ≡ true
+one part counted = (Decides-eqb (length part.cpus) 1).1 (one_core part counted)
 
 -- ---- private windows
 
@@ -89,11 +93,17 @@ windowed config part e =
 
 -- ---- all of it
 
+pub keeps_names : (config : Config) → IsAccepted config → KeepsNames config
+keeps_names config accepted =
+    let k = kept config accepted.board accepted.none in
+    record { parts = k.free_names; consoles = k.plain_consoles }
+
 pub keeps_parts : (config : Config) → IsAccepted config → KeepsParts config
 keeps_parts config accepted =
     let k = kept config accepted.board accepted.none in
     record {
       small = all-both few_in (λ (part : PartDef). not (is_miscounted part)) is_small small config.parts k.few k.counted;
+      cores = all-mono (λ (part : PartDef). not (is_miscounted part)) has_one_core one config.parts k.counted;
       windows = rw (list_all-map has_window (desc_of config) config.parts)
           (all-mono (λ (part : PartDef). not (is_windowless config part)) (λ (part : PartDef). has_window (desc_of config part)) (windowed config) config.parts k.windows);
     }

@@ -8,6 +8,7 @@ use Rattle.config_descs.specs.Limits.{KeepsLimits}
 use Rattle.config_descs.specs.Wired.{wiring_of}
 use Rattle.config_rules.specs.Accepted.{IsAccepted}
 use Rattle.config_rules.specs.Completed.{AreCompleted}
+use Rattle.config_rules.specs.Names.{KeepsNames}
 use Rattle.config_rules.specs.Parts.{KeepsParts}
 
 -- The descriptions of its partitions are joined with its wiring.
@@ -25,3 +26,7 @@ AcceptedKeepLimits = (config : Config) → IsAccepted config → KeepsLimits con
 -- So does each of its partitions, whose window for its device tree is private.
 abbrev pub AcceptedKeepParts : Type 0
 AcceptedKeepParts = (config : Config) → IsAccepted config → KeepsParts config
+
+-- No partition's name is taken by a line of the program, and no console's has a blank.
+abbrev pub AcceptedKeepNames : Type 0
+AcceptedKeepNames = (config : Config) → IsAccepted config → KeepsNames config

@@ -1,5 +1,5 @@
 -- What each partition of an accepted configuration keeps.
-use Rattle.std.specs.Prelude.{◌≡◌, ◌+◌, Bool, true, ◌&&◌, nat_le, length}
+use Rattle.std.specs.Prelude.{◌≡◌, ◌+◌, ◌==◌, Bool, true, ◌&&◌, nat_le, length}
 use Rattle.std.specs.List.{list_all}
 use Rattle.hv_config.specs.declared.config.PartDef.{PartDef}
 use Rattle.hv_config.specs.declared.config.Config.{Config}
@@ -13,6 +13,10 @@ abbrev pub is_small : PartDef → Bool
 is_small part =
     nat_le (length part.areas) most_regions && nat_le (length part.handles) most_handles && nat_le (length part.cpus) most_cores
 
+-- one core, until partitions have several
+abbrev pub has_one_core : PartDef → Bool
+has_one_core part = length part.cpus == 1
+
 -- The window for its device tree is private, is mapped as it starts, and has room for spin entries.
 unfoldable pub has_window : Desc → Bool
 has_window desc =
@@ -22,4 +26,5 @@ has_window desc =
 
 pub record KeepsParts (config : Config) : Type 0 where
   pub small : list_all is_small config.parts ≡ true
+  pub cores : list_all has_one_core config.parts ≡ true
   pub windows : list_all has_window (descs_of config) ≡ true

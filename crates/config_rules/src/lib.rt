@@ -11,4 +11,6 @@ mod laws;
 mod tests;
 
 pub use accepting::{Accepted, accept};
-pub use laws::{accepted_keep_limits, accepted_keep_parts, descriptions_are_joined};
+pub use laws::{
+    accepted_keep_limits, accepted_keep_names, accepted_keep_parts, descriptions_are_joined,
+};

@@ -1,10 +1,9 @@
 -- The description of the built-in machine is sound.
-use Rattle.std.proofs.Common.{◌≡◌, ℕ, zero, suc, ◌+◌, ◌<◌, ◌≤◌, Bool, true, false, ◌&&◌, ◌||◌, nat_lt, nat_le, List, [], ◌∷◌, length, refl, arith}
+use Rattle.std.proofs.Common.{◌≡◌, ℕ, zero, suc, ◌+◌, ◌<◌, ◌≤◌, true, List, [], ◌∷◌, length, refl, arith}
 use Rattle.std.specs.List.{list_all, range_with_len}
-use Rattle.std.proofs.lemmas.Bool.{and_from, lt-ltb, le-leb}
-use Rattle.machine_desc.specs.declared.desc.Desc.{Desc}
+use Rattle.std.proofs.lemmas.Bool.{and_from}
 use Rattle.machine_desc.specs.Private.{is_private_address, is_private_range}
-use Rattle.machine_desc.specs.Sound.{IsSound, is_sound, are_regions_sound, are_counts_kept, are_numbered, is_start_mapped, are_spin_entries_private, is_private_piece}
+use Rattle.machine_desc.specs.Sound.{IsSound, is_sound, are_regions_sound, are_counts_kept, are_numbered, is_start_mapped, are_spin_entries_private}
 use Rattle.topaz_run.specs.BuiltIn.{built_in, built_in_region}
 
 small_private : (address : ℕ) → address < 65536 → is_private_address (built_in_region ∷ []) address ≡ true

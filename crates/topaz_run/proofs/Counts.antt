@@ -1,13 +1,12 @@
 -- What consoles printed, and the acts of steps.
-use Rattle.std.proofs.Common.{◌≡◌, ℕ, zero, suc, ◌+◌, ◌-◌, ◌*◌, ◌^◌, ◌<◌, ◌≤◌, ◌==◌, Bool, true, false, List, [], ◌∷◌, ◌++◌, length, replicate, drop, get_or, slice_index_or, slice_set, length-set, get_or-set_same, get_or-set_other, add-one, Option, None, Some, refl, sym, ap, subst, ◌∙◌, arith}
+use Rattle.std.proofs.Common.{◌≡◌, ℕ, zero, suc, ◌+◌, ◌-◌, ◌*◌, ◌^◌, ◌<◌, ◌≤◌, List, [], ◌∷◌, ◌++◌, length, replicate, drop, get_or, slice_index_or, slice_set, length-set, add-one, Option, None, Some, refl, sym, ap, ◌∙◌, arith}
 use Rattle.std.proofs.Math.Seq.{drop-cons}
-use Rattle.std.proofs.lemmas.Bool.{eqb-true, eqb-false}
 use Rattle.std.proofs.lemmas.List.{drop_all}
 use Rattle.core_step.specs.declared.answer.Wrote.{Wrote}
 use Rattle.fresh_load.specs.Placed.{extents_of}
 use Rattle.machine_desc.specs.declared.act.Act.{Act as Told}
 use Rattle.partition.specs.Machine.{Machine}
-use Rattle.partition.specs.Act.{Act, act_of}
+use Rattle.partition.specs.Act.{act_of}
 use Rattle.partition.specs.Step.{step}
 use Rattle.partition.specs.Lending.{IsStepped}
 use Rattle.topaz_run.specs.Report.{World, turned, stepping, printed_on, console_lines}

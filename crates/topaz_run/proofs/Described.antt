@@ -70,9 +70,9 @@ all-start config (part ∷ parts) (desc ∷ descs) are sound windows =
     let window = and_parts (has_window (desc_of config part)) (list_all has_window (map (desc_of config) parts)) windows in
     and_from (is_startable desc) (list_all is_startable descs) (starts config part desc are.0 here.0 window.0) (all-start config parts descs are.1 here.1 window.1)
 
-bases-sound : (config : Config) → AreJoined (descs_of config) (wiring_of config) → list_all is_sound (descs_of config) ≡ true
+pub bases_sound : (config : Config) → AreJoined (descs_of config) (wiring_of config) → list_all is_sound (descs_of config) ≡ true
 unfolding are_joined
-bases-sound config e =
+bases_sound config e =
     let descs = descs_of config in
     let wiring = wiring_of config in
     let a = and_parts _ (are_ports_joined descs wiring) e in
@@ -88,5 +88,5 @@ pub described_joined : AcceptedKeepParts → BasesAreJoined → CompletedAreJoin
 described_joined keep bases completed config accepted descs are =
     completed config accepted descs (record {
       bases = all-stripped config config.parts descs are;
-      starts = all-start config config.parts descs are (bases-sound config (bases config accepted)) (keep config accepted).windows;
+      starts = all-start config config.parts descs are (bases_sound config (bases config accepted)) (keep config accepted).windows;
     })

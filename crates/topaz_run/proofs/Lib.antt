@@ -11,3 +11,6 @@ pub mod Checks
 pub mod GoingOn
 pub mod Named
 pub mod Described
+pub mod Texts
+pub mod Imaged
+pub mod Single

@@ -1,5 +1,5 @@
 -- What the answers of a command and of the top call say of the outcome.
-use Rattle.std.specs.Prelude.{◌≡◌, ℕ, ◌≤◌, ⊤, Bool, true, List, length, Option, Some, Result, Ok, Err, Contains}
+use Rattle.std.specs.Prelude.{◌≡◌, ℕ, ◌≤◌, ⊤, Bool, true, List, length, Option, Some, None, Result, Ok, Err, Contains}
 use Rattle.std.specs.Io.KnownBytes.{Keeps, Appends}
 use Rattle.topaz_run.specs.declared.status.Status.{Status}
 use Rattle.topaz_run.specs.declared.status.Status.TheVariants as status
@@ -9,9 +9,12 @@ use Rattle.outside.specs.Limit.{file_limit}
 use Rattle.outside.specs.Content.{Content, file_of}
 use Rattle.hv_config.specs.declared.fault.Fault.{Fault}
 use Rattle.hv_config.specs.declared.fault.Fault.TheVariants as fault
+use Rattle.elf_image.specs.declared.fault.ImageFault.{ImageFault}
+use Rattle.elf_image.specs.declared.fault.ImageFault.TheVariants as image
 use Rattle.hv_read.specs.declared.misread.Misread.{Misread}
 use Rattle.hv_read.specs.declared.misread.Misread.TheVariants as misread
 use Rattle.topaz_run.specs.Plan.{Outcome, Misused, Lacking, Refused, Done, Plan, refusal, outcome_of, needs_of}
+use Rattle.topaz_run.specs.Imaging.{image_rule}
 use Rattle.topaz_run.specs.Outcome.{blob_rule, rule_text}
 
 -- an early end of a command is the outcome's refusal, but for a fault and want of memory
@@ -24,6 +27,16 @@ Stops stop.NoMemory outcome = ⊤
 abbrev pub RefusesFault : Fault → Stop → Type 0
 RefusesFault (fault.Broken rule at) end = Stops end (refusal (rule_text rule) at)
 RefusesFault fault.NoMemory end = end ≡ stop.NoMemory
+
+-- the early end refuses by the rule of images that the fault tells, at the place of the partition
+abbrev pub RefusesImage : List ℕ → ImageFault → Stop → Type 0
+RefusesImage place (image.Rule number) end = Stops end (refusal (image_rule number) place)
+RefusesImage place image.NoMemory end = end ≡ stop.NoMemory
+
+-- by this rule of images, at the place; where none is broken there was no memory
+abbrev pub StopsBy : List ℕ → Stop → Option ℕ → Type 0
+StopsBy place end (Some number) = Stops end (refusal (image_rule number) place)
+StopsBy place end None = end ≡ stop.NoMemory
 
 -- the early end refuses by the rule that the bytes of the file break
 abbrev pub RefusesMisread : List ℕ → Misread → Stop → Type 0

@@ -7,6 +7,7 @@ pub mod Printed
 pub mod Report
 pub mod BuiltIn
 pub mod Plan
+pub mod Imaging
 pub mod Outcome
 pub mod Answers
 pub mod Laws

@@ -1,19 +1,25 @@
 -- What the words mean over what the files contain, and which files they need.
-use Rattle.std.specs.Prelude.{ℕ, List, [], ◌∷◌, ◌++◌, Option, None, Some, Bool, nat_lt, length, codes, decimal, if◌then◌else◌}
+use Rattle.std.specs.Prelude.{ℕ, List, [], ◌∷◌, ◌++◌, map, Option, None, Some, Bool, nat_lt, length, codes, decimal, if◌then◌else◌}
 use Rattle.dt_model.specs.Fault.{first_fault}
 use Rattle.dt_model.specs.Canonical.{rewritten, most_bytes}
 use Rattle.outside.specs.Content.{Content}
 use Rattle.hv_config.specs.declared.config.PartDef.{PartDef}
 use Rattle.hv_config.specs.declared.config.Config.{Config}
+use Rattle.hv_config.specs.declared.board.Board.{Board}
+use Rattle.hv_config.specs.declared.board.Cpu.{Cpu}
 use Rattle.hv_config.specs.declared.fault.Rule.{Rule}
 use Rattle.hv_config.specs.Rule.{Breach}
 use Rattle.hv_read.specs.Read.{Flaw, BlobRule, TreeRule, config_flaw, config_said, hardware_flaw, board_said}
 use Rattle.config_checks.specs.Rules.{first_broken}
 use Rattle.config_descs.specs.Numbered.{part_named}
+use Rattle.config_descs.specs.Wired.{wiring_of}
+use Rattle.machine_desc.specs.declared.desc.Desc.{Desc}
 use Rattle.guest_tree.specs.Guest.{guest_blob}
-use Rattle.topaz_run.specs.Words.{Command, Bare, Dtb, Check, Guest, command_of}
+use Rattle.topaz_run.specs.declared.setup.Setup.{Setup}
+use Rattle.topaz_run.specs.Words.{Command, Bare, Dtb, Check, Guest, Run, command_of}
 use Rattle.topaz_run.specs.Text.{accepted_line}
 use Rattle.topaz_run.specs.Report.{run, opening}
+use Rattle.topaz_run.specs.Imaging.{imaging}
 use Rattle.topaz_run.specs.BuiltIn.{memory_size, built_in, built_in_wiring, built_in_schedule}
 use Rattle.topaz_run.specs.Plan.{Outcome, Misused, Lacking, Refused, Done, Plan, Ends, Opens, refusal, outcome_of, needs_of}
 
@@ -64,26 +70,27 @@ flawed file (BlobRule rule) = refusal (blob_rule rule) file
 flawed file (TreeRule breach) = broken breach
 
 -- by the first of the rules C5 to C22 that the configuration breaks, or else it goes on
-abbrev pub ruled : (Config → Plan) → Config → Option Breach → Plan
-ruled next config (Some breach) = Ends (broken breach)
-ruled next config None = next config
+abbrev pub ruled : (Setup → Plan) → Config → Board → Option Breach → Plan
+ruled next config board (Some breach) = Ends (broken breach)
+ruled next config board None = next (record { accepted = config; board = board })
 
 -- what comes of the hardware's file
-abbrev pub equipped : List ℕ → (Config → Plan) → Config → List ℕ → Option Flaw → Plan
+abbrev pub equipped : List ℕ → (Setup → Plan) → Config → List ℕ → Option Flaw → Plan
 equipped hw next config bytes (Some flaw) = Ends (flawed hw flaw)
-equipped hw next config bytes None = ruled next config (first_broken config (board_said bytes))
+equipped hw next config bytes None = ruled next config (board_said bytes) (first_broken config (board_said bytes))
 
 -- the hardware is read where the configuration's file is right
-abbrev pub equipping : List ℕ → (Config → Plan) → Config → Plan
+abbrev pub equipping : List ℕ → (Setup → Plan) → Config → Plan
 equipping hw next config = Opens hw hw (λ bytes. equipped hw next config bytes (hardware_flaw bytes))
 
 -- how it goes on behind the configuration's file
-abbrev pub configured : List ℕ → List ℕ → (Config → Plan) → List ℕ → Option Flaw → Plan
+abbrev pub configured : List ℕ → List ℕ → (Setup → Plan) → List ℕ → Option Flaw → Plan
 configured config hw next bytes (Some flaw) = Ends (flawed config flaw)
 configured config hw next bytes None = equipping hw next (config_said bytes)
 
--- The configuration's file is right before the hardware's is opened, and it goes on with the configuration that is accepted.
-abbrev pub accepting : List ℕ → List ℕ → (Config → Plan) → Plan
+-- The configuration's file is right before the hardware's is opened, and it goes on with the configuration that is accepted and
+-- its hardware.
+abbrev pub accepting : List ℕ → List ℕ → (Setup → Plan) → Plan
 accepting config hw next = Opens config config (λ bytes. configured config hw next bytes (config_flaw bytes))
 
 -- an accepted configuration's numbers
@@ -91,7 +98,7 @@ abbrev pub numbers : Config → Outcome
 numbers config = Done (accepted_line (length config.parts) (length config.areas) (length config.channels) (length config.bells))
 
 abbrev pub checking : List ℕ → List ℕ → Plan
-checking config hw = accepting config hw (λ said. Ends (numbers said))
+checking config hw = accepting config hw (λ setup. Ends (numbers setup.accepted))
 
 -- ---- guest
 
@@ -104,7 +111,34 @@ abbrev pub guest : List ℕ → Config → Outcome
 guest name config = guest_of name config (part_named config.parts name)
 
 abbrev pub showing : List ℕ → List ℕ → List ℕ → Plan
-showing config hw name = accepting config hw (λ said. Ends (guest name said))
+showing config hw name = accepting config hw (λ setup. Ends (guest name setup.accepted))
+
+-- ---- run
+
+-- the cpus of the hardware in its order, usable or not: where a script has no order of its own, they take turns so
+abbrev pub all_cpus : Board → List ℕ
+all_cpus board = map (λ (cpu : Cpu). cpu.number) board.cpus
+
+-- the report of the partition with this description
+abbrev pub report : Setup → ℕ → Desc → Outcome
+report setup turns desc =
+    let whole = run (all_cpus setup.board) turns 0 (opening desc (wiring_of setup.accepted)) in reported whole.is_built whole.text
+
+-- N2, until several partitions run: at the configuration where it hasn't one partition, else at the script where that has a byte
+abbrev pub reporting : List ℕ → List ℕ → ℕ → Setup → List Desc → List ℕ → Outcome
+reporting config script turns setup (desc ∷ []) [] = report setup turns desc
+reporting config script turns setup (desc ∷ []) (byte ∷ bytes) = refusal (codes "N2") script
+reporting config script turns setup _ bytes = refusal (codes "N2") config
+
+-- the script is read once the partitions are described
+abbrev pub scripted : List ℕ → List ℕ → ℕ → Setup → List Desc → Plan
+scripted config script turns setup descs = Opens script script (λ bytes. Ends (reporting config script turns setup descs bytes))
+
+abbrev pub imaged : List ℕ → List ℕ → ℕ → Setup → Plan
+imaged config script turns setup = imaging setup.accepted setup.accepted.parts [] (λ descs. scripted config script turns setup descs)
+
+abbrev pub running : List ℕ → List ℕ → List ℕ → ℕ → Plan
+running config hw script turns = accepting config hw (λ setup. imaged config script turns setup)
 
 -- ---- every command
 
@@ -114,6 +148,7 @@ plan_of (Bare image turns) = Opens image image (λ bytes. Ends (bare image turns
 plan_of (Dtb file) = Opens file file (λ bytes. Ends (dtb file bytes))
 plan_of (Check config hw) = checking config hw
 plan_of (Guest config hw name) = showing config hw name
+plan_of (Run config hw script turns) = running config hw script turns
 
 abbrev pub outcome_if : Option Command → Content → Outcome
 outcome_if None content = Misused

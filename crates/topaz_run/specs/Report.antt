@@ -5,7 +5,7 @@ use Rattle.machine_desc.specs.declared.act.State.TheVariants.{Running}
 use Rattle.machine_desc.specs.declared.desc.Desc.{Desc}
 use Rattle.machine_desc.specs.declared.wiring.PortRef.{PortRef}
 use Rattle.machine_desc.specs.declared.wiring.End.{End}
-use Rattle.machine_desc.specs.declared.wiring.End.TheVariants.{Part, Console}
+use Rattle.machine_desc.specs.declared.wiring.End.TheVariants.{Console}
 use Rattle.machine_desc.specs.declared.wiring.Link.{Link}
 use Rattle.machine_desc.specs.declared.wiring.Wiring.{Wiring}
 use Rattle.machine_desc.specs.Joined.{is_at}

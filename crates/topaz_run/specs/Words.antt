@@ -17,11 +17,21 @@ pub data Command : Type 0 where
   Check : List ℕ → List ℕ → Command
   -- the guest tree of the partition of that name, where the configuration is accepted
   Guest : List ℕ → List ℕ → List ℕ → Command
+  -- the partitions of a configuration that is accepted, on the script in the third file, for so many turns
+  Run : List ℕ → List ℕ → List ℕ → ℕ → Command
 
 abbrev pub bare_of : List ℕ → List ℕ → Option Command
 bare_of image turns = option_map (λ n. Bare image n) (number_of most_turns turns)
 
--- `bare IMAGE N`, `dtb FILE`, `check CONFIG HW` and `guest CONFIG HW NAME`; every other list of words asks for nothing
+abbrev pub run_of : List ℕ → List ℕ → List ℕ → List ℕ → Option Command
+run_of config hw script turns = option_map (λ n. Run config hw script n) (number_of most_turns turns)
+
+-- `run CONFIG HW SCRIPT N`
+abbrev pub long_command_of : List (List ℕ) → Option Command
+long_command_of (verb ∷ first ∷ second ∷ third ∷ fourth ∷ []) = if bytes_eq verb (codes "run") then run_of first second third fourth else None
+long_command_of _ = None
+
+-- `bare IMAGE N`, `dtb FILE`, `check CONFIG HW`, `guest CONFIG HW NAME`, and those of five words; every other list asks for nothing
 abbrev pub command_of : List (List ℕ) → Option Command
 command_of (verb ∷ file ∷ []) = if bytes_eq verb (codes "dtb") then Some (Dtb file) else None
 command_of (verb ∷ first ∷ second ∷ []) =
@@ -29,7 +39,7 @@ command_of (verb ∷ first ∷ second ∷ []) =
     else if bytes_eq verb (codes "check") then Some (Check first second)
     else None
 command_of (verb ∷ first ∷ second ∷ third ∷ []) = if bytes_eq verb (codes "guest") then Some (Guest first second third) else None
-command_of _ = None
+command_of words = long_command_of words
 
 -- the numbers of a command keep their limits
 abbrev pub KeepsLimits : Command → Type 0
@@ -37,3 +47,4 @@ KeepsLimits (Bare image turns) = turns ≤ most_turns
 KeepsLimits (Dtb file) = ⊤
 KeepsLimits (Check config hw) = ⊤
 KeepsLimits (Guest config hw name) = ⊤
+KeepsLimits (Run config hw script turns) = turns ≤ most_turns

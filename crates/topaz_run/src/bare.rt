@@ -8,9 +8,9 @@ ghost use Rattle.topaz_run.specs.Outcome.{bare, plan_of};
 ghost use Rattle.topaz_run.specs.Answers.{Meets};
 
 use crate::built_in::{MEMORY_SIZE, description, wiring};
-use crate::read::read_file;
+use crate::read::read_word;
 use crate::refuse::refused;
-use crate::run::run;
+use crate::report::report;
 use crate::status::Stop;
 use outside::{Bytes, Files};
 use std::alloc::Global;
@@ -24,7 +24,7 @@ pub fn bare<F: Files>(alloc: Global, files: &mut F, image: &str, turns: u64) -> 
         Contains (needs_of content (plan_of (Bare image.now turns))) (F.blamed files.new)) }
     ensures counted { F.faults files.old ≤ F.faults files.new }
 {
-    let bytes = read_file(alloc, files, image, image)?;
+    let bytes = read_word(alloc, files, image)?;
     run_image(alloc, image, bytes.as_slice(), turns)
 }
 
@@ -40,5 +40,5 @@ fn run_image(alloc: Global, name: &str, image: &[u8], turns: u64) -> Result<Byte
     }
     let desc = description(alloc, image)?;
     let wiring = wiring(alloc)?;
-    run(alloc, desc, wiring, &[0], turns)
+    report(alloc, desc, wiring, &[0], turns)
 }

@@ -23,8 +23,8 @@ pub fn check<F: Files>(alloc: Global, files: &mut F, config: &str, hw: &str) -> 
         Contains (needs_of content (spec.checking config.now hw.now)) (F.blamed files.new)) }
     ensures counted { F.faults files.old ≤ F.faults files.new }
 {
-    let accepted = read_accepted(alloc, files, config, hw)?;
-    numbers(alloc, accepted.config())
+    let setup = read_accepted(alloc, files, config, hw)?;
+    numbers(alloc, setup.accepted.config())
 }
 
 /// The numbers of an accepted configuration.

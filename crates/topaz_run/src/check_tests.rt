@@ -9,7 +9,7 @@ use std::alloc::Global;
 use std::test::Fail;
 
 /// Words from a place to another one, both included, that are this one instead.
-type Change = (usize, usize, u32);
+pub type Change = (usize, usize, u32);
 
 /// The low word of `/areas/b`'s `base`, a page too early.
 const OVERLAP: Change = (45, 45, 0xF000);
@@ -57,7 +57,7 @@ fn blob_of(
 }
 
 /// The configuration, with changes.
-fn two(alloc: Global, changes: &[Change]) -> Result<Bytes, NoMemory> {
+pub fn two(alloc: Global, changes: &[Change]) -> Result<Bytes, NoMemory> {
     blob_of(alloc, &TWO, TWO_STRINGS, changes)
 }
 
@@ -67,7 +67,7 @@ fn front_of_two(alloc: Global) -> Result<Bytes, NoMemory> {
 }
 
 /// The hardware, with changes.
-fn hardware(alloc: Global, changes: &[Change]) -> Result<Bytes, NoMemory> {
+pub fn hardware(alloc: Global, changes: &[Change]) -> Result<Bytes, NoMemory> {
     blob_of(alloc, &HARDWARE, HARDWARE_STRINGS, changes)
 }
 
@@ -92,7 +92,7 @@ fn files_of(
 }
 
 /// What the words answer and write.
-fn answer(
+pub fn answer(
     alloc: Global,
     words: &[&str],
     list: Vec<NamedFile>,

@@ -23,4 +23,11 @@ pub enum Command<'a> {
         hw: &'a str,
         name: &'a str,
     },
+    /// The run of the partitions of a configuration that is accepted likewise, on the script in the third file, for so many turns.
+    Run {
+        config: &'a str,
+        hw: &'a str,
+        script: &'a str,
+        turns: u64,
+    },
 }

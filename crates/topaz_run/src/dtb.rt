@@ -9,7 +9,7 @@ ghost use Rattle.topaz_run.specs.Plan.{outcome_of, needs_of};
 ghost use Rattle.topaz_run.specs.Outcome.{dtb, writing, plan_of};
 ghost use Rattle.topaz_run.specs.Answers.{Meets};
 
-use crate::read::read_file;
+use crate::read::read_word;
 use crate::refuse::refused_blob;
 use crate::status::Stop;
 use dt_model::Tree;
@@ -29,7 +29,7 @@ pub fn dtb<F: Files>(alloc: Global, files: &mut F, file: &str) -> Result<Bytes, 
         Contains (needs_of content (plan_of (Dtb file.now))) (F.blamed files.new)) }
     ensures counted { F.faults files.old ≤ F.faults files.new }
 {
-    let bytes = read_file(alloc, files, file, file)?;
+    let bytes = read_word(alloc, files, file)?;
     rewrite(alloc, file, bytes.as_slice())
 }
 

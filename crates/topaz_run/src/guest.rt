@@ -36,8 +36,8 @@ pub fn guest<F: Files>(
         Contains (needs_of content (spec.showing config.now hw.now name.now)) (F.blamed files.new)) }
     ensures counted { F.faults files.old ≤ F.faults files.new }
 {
-    let accepted = read_accepted(alloc, files, config, hw)?;
-    guest_named(alloc, &accepted, name)
+    let setup = read_accepted(alloc, files, config, hw)?;
+    guest_named(alloc, &setup.accepted, name)
 }
 
 /// The blob of the guest tree of the partition of that name.
@@ -52,9 +52,10 @@ fn guest_named(alloc: Global, accepted: &Accepted, name: &str) -> Result<Bytes, 
 }
 
 /// The blob of the guest tree of the partition of that number.
-fn guest_of(alloc: Global, accepted: &Accepted, part: usize) -> Result<Bytes, NoMemory>
+pub fn guest_of(alloc: Global, accepted: &Accepted, part: usize) -> Result<Bytes, NoMemory>
     requires { part < length accepted.now.parts }
-    ensures { IfOk result (λ blob. (d : PartDef) → blob ≡ guest_blob accepted.now (slice_index_or accepted.now.parts part d)) }
+    ensures value { IfOk result (λ blob. (d : PartDef) → blob ≡ guest_blob accepted.now (slice_index_or accepted.now.parts part d)) }
+    ensures small { IfOk result (λ blob. length blob ≤ largest_blob) }
 {
     guest_trees_fit();
     blobs_are_those_of_the_trees();
@@ -67,7 +68,8 @@ fn guest_of(alloc: Global, accepted: &Accepted, part: usize) -> Result<Bytes, No
 fn write_small(alloc: Global, tree: &Tree) -> Result<Bytes, NoMemory>
     requires fits { Fits tree.now }
     requires small { length (canonical tree.now) ≤ largest_blob }
-    ensures { IfOk result (λ blob. blob ≡ canonical tree.now) }
+    ensures value { IfOk result (λ blob. blob ≡ canonical tree.now) }
+    ensures small { IfOk result (λ blob. length blob ≤ largest_blob) }
 {
     match write(alloc, tree) {
         Ok(blob) => Ok(Bytes::from_vec(blob)),

@@ -1,10 +1,10 @@
 //! The top call: what the words of the command line mean, from the files that they name to the bytes that
 //! are written.
 //!
-//! It stands on `outside` (files and sinks), `machine_desc` and `partition` (the machine), `dt_model`, `dt_read` and `dt_write` (blobs),
-//! `hv_config`, `hv_read` and `config_rules` (configurations and hardware), and `guest_tree`. Its contract is the main
-//! theorem: the status and the bytes written are those of `outcome`, in `specs/Outcome.antt`, and each other answer has
-//! its cause.
+//! It stands on `outside` (files and sinks), `machine_desc` and `partition` (the machine), `dt_model`, `dt_read` and
+//! `dt_write` (blobs), `hv_config`, `hv_read` and `config_rules` (configurations and hardware), `guest_tree` (device trees of
+//! guests), and `elf_image` and `fresh_load` (images). Its contract is the main theorem: the status and the bytes written
+//! are those of `outcome`, in `specs/Outcome.antt`, and each other answer has its cause.
 #![tactic(auto)]
 
 mod accepting;
@@ -17,11 +17,14 @@ mod deliver;
 mod dtb;
 mod gathered;
 mod guest;
+mod imaging;
 mod laws;
 mod number;
 mod read;
 mod refuse;
+mod report;
 mod run;
+mod setup;
 mod status;
 mod text;
 mod top_call;
@@ -40,5 +43,7 @@ mod check_blobs;
 mod check_tests;
 #[cfg(test)]
 mod images;
+#[cfg(test)]
+mod run_tests;
 #[cfg(test)]
 mod tests;

@@ -3,24 +3,33 @@
 ghost use Rattle.std.specs.Prelude.{◌≡◌, ◌≢◌};
 ghost use Rattle.topaz_run.specs.Plan.{refusal};
 ghost use Rattle.topaz_run.specs.Outcome.{blob_rule, rule_text};
-ghost use Rattle.topaz_run.specs.Answers.{RefusesFault, RefusesMisread, Stops};
+ghost use Rattle.topaz_run.specs.Answers.{RefusesFault, RefusesImage, RefusesMisread, Stops};
 
 use crate::gathered::Gathered;
 use crate::status::Stop;
 use crate::text::{write_refused_blob, write_refused_rule};
+use elf_image::ImageFault;
 use hv_config::{Fault, Rule};
 use hv_read::Misread;
 use outside::Failed;
 use std::alloc::Global;
 use trace_text::refused_line;
 
+/// The rule is broken at the word.
+pub fn refused(alloc: Global, rule: &str, word: &str) -> Stop
+    ensures refusal { Stops result (refusal rule.now word.now) }
+    ensures no_fault { result ≢ Stop.ReadFault }
+{
+    refused_at(alloc, rule, word.as_bytes())
+}
+
 /// The rule is broken at the place.
-pub fn refused(alloc: Global, rule: &str, place: &str) -> Stop
+pub fn refused_at(alloc: Global, rule: &str, place: &[u8]) -> Stop
     ensures refusal { Stops result (refusal rule.now place.now) }
     ensures no_fault { result ≢ Stop.ReadFault }
 {
     let mut text = Gathered::new(alloc);
-    match refused_line(&mut text, rule.as_bytes(), place.as_bytes()) {
+    match refused_line(&mut text, rule.as_bytes(), place) {
         Ok(()) => Stop::Refused(text.into_bytes()),
         Err(Failed) => Stop::NoMemory,
     }
@@ -58,6 +67,24 @@ pub fn refused_fault(alloc: Global, fault: Fault) -> Stop
     match fault {
         Fault::Broken { rule, at } => refused_rule(alloc, rule, at.as_slice()),
         Fault::NoMemory => Stop::NoMemory,
+    }
+}
+
+/// The image is refused by the fault, at the place of its partition.
+pub fn refused_image(alloc: Global, fault: ImageFault, place: &[u8]) -> Stop
+    ensures refusal { RefusesImage place.now fault result }
+    ensures no_fault { result ≢ Stop.ReadFault }
+{
+    match fault {
+        ImageFault::Rule(number) => refused_rule(
+            alloc,
+            Rule {
+                letter: b'I',
+                number,
+            },
+            place,
+        ),
+        ImageFault::NoMemory => Stop::NoMemory,
     }
 }
 

@@ -15,6 +15,7 @@ use crate::command::Command;
 use crate::deliver::deliver;
 use crate::dtb::dtb;
 use crate::guest::guest;
+use crate::run::run;
 use crate::status::{Status, Stop};
 use crate::words::command;
 use outside::{Bytes, Failed, Files, Sink};
@@ -76,6 +77,12 @@ fn answer<F: Files>(alloc: Global, command: Command<'_>, files: &mut F) -> Resul
         Command::Dtb { file } => dtb(alloc, files, file),
         Command::Check { config, hw } => check(alloc, files, config, hw),
         Command::Guest { config, hw, name } => guest(alloc, files, config, hw, name),
+        Command::Run {
+            config,
+            hw,
+            script,
+            turns,
+        } => run(alloc, files, config, hw, script, turns),
     }
 }
 

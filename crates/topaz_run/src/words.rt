@@ -1,7 +1,7 @@
 //! The words of the command line.
 
 ghost use Rattle.std.specs.Prelude.{◌≡◌, map, IfSome, MatchOption, Some, None, string_bytes};
-ghost use Rattle.topaz_run.specs.Words.{KeepsLimits, command_of};
+ghost use Rattle.topaz_run.specs.Words.{KeepsLimits, command_of, long_command_of};
 ghost use Rattle.topaz_run.specs.Meant.{meant};
 
 use crate::command::Command;
@@ -36,6 +36,26 @@ pub fn command<'a>(words: &'a [String]) -> Option<Command<'a>>
         [verb, file] if verb.as_str() == "dtb" => Some(Command::Dtb {
             file: file.as_str(),
         }),
+        _ => long_command(words),
+    }
+}
+
+/// The command that five words ask for.
+fn long_command<'a>(words: &'a [String]) -> Option<Command<'a>>
+    ensures meant { MatchOption result (long_command_of (map string_bytes words.now) ≡ None)
+        (λ command. long_command_of (map string_bytes words.now) ≡ Some (meant command)) }
+    ensures limits { IfSome result (λ command. KeepsLimits (meant command)) }
+{
+    match words {
+        [verb, config, hw, script, turns] if verb.as_str() == "run" => {
+            let turns = number(turns.as_str(), MOST_TURNS)?;
+            Some(Command::Run {
+                config: config.as_str(),
+                hw: hw.as_str(),
+                script: script.as_str(),
+                turns,
+            })
+        }
         _ => None,
     }
 }

@@ -3,28 +3,30 @@ use Rattle.std.specs.Prelude.{Contains}
 use Rattle.std.proofs.lemmas.Result.{err_from_is_err_and}
 use Rattle.hv_config.specs.declared.config.Config.{Config}
 use Rattle.topaz_run.specs.declared.status.Stop.TheVariants as stop
-use Rattle.topaz_run.specs.Plan.{Ends, outcome_of, needs_of}
+use Rattle.topaz_run.specs.declared.setup.Setup.{Setup}
+use Rattle.topaz_run.specs.Plan.{Plan, Ends, outcome_of, needs_of}
 use Rattle.topaz_run.specs.Outcome.{numbers, accepting}
 use Rattle.topaz_run.specs.Answers.{Meets, Stops}
-use Rattle.topaz_run.proofs.GoingOn.{Next, for_one, meets_accepted, one_fault}
+use Rattle.topaz_run.proofs.GoingOn.{Next, for_one, meets_ended, one_fault}
 use Rattle.topaz_run.proofs.check.check.Goals as goal
 
-pub returns-in_err-accepted-clause-answer : goal.returns-in_err-accepted-clause-answer
-returns-in_err-accepted-clause-answer g c =
+pub returns-in_err-setup-clause-answer : goal.returns-in_err-setup-clause-answer
+returns-in_err-setup-clause-answer g c =
     let p = err_from_is_err_and c.from_residual.result c.from_residual.ensures.1 in
-    let next : Next = λ said. Ends (numbers said) in
-    let s = c.in_err-accepted.field-0.0 in
-    rw (p.1, p.2) (for_one (g.F.Files.content c.args.files.now) (λ content next. Stops s (outcome_of content (accepting c.args.config.now c.args.hw.now next))) next c.in_err-accepted.ensures.stopped)
+    let next : Next Setup = λ setup. Ends (numbers setup.accepted) in
+    let s = c.in_err-setup.field-0.0 in
+    rw (p.1, p.2) (for_one (g.F.Files.content c.args.files.now) (λ content next. Stops s (outcome_of content (accepting c.args.config.now c.args.hw.now next))) next c.in_err-setup.ensures.stopped)
 
-pub returns-in_err-accepted-clause-needed : goal.returns-in_err-accepted-clause-needed
-returns-in_err-accepted-clause-needed g c = λ fault.
+pub returns-in_err-setup-clause-needed : goal.returns-in_err-setup-clause-needed
+returns-in_err-setup-clause-needed g c = λ fault.
     let p = err_from_is_err_and c.from_residual.result c.from_residual.ensures.1 in
     let same = sym p.2 ∙ one_fault c.from_residual.result p.0 stop.ReadFault p.1 fault in
-    let next : Next = λ said. Ends (numbers said) in
+    let next : Next Setup = λ setup. Ends (numbers setup.accepted) in
     let blamed = g.F.Files.blamed c.read_accepted.new.files in
-    for_one (g.F.Files.content c.args.files.now) (λ content next. Contains (needs_of content (accepting c.args.config.now c.args.hw.now next)) blamed) next (c.in_err-accepted.ensures.needed (ap Err same))
+    for_one (g.F.Files.content c.args.files.now) (λ content next. Contains (needs_of content (accepting c.args.config.now c.args.hw.now next)) blamed) next (c.in_err-setup.ensures.needed (ap Err same))
 
 pub returns-clause-answer : goal.returns-clause-answer
 returns-clause-answer g c =
-    meets_accepted (g.F.Files.content c.args.files.now) c.args.config.now c.args.hw.now c.in_ok-accepted.accepted numbers c.numbers.result c.in_ok-accepted.ensures.goes_on
+    let whole : Next Setup → Plan = λ next. accepting c.args.config.now c.args.hw.now next in
+    meets_ended (g.F.Files.content c.args.files.now) whole c.in_ok-setup.setup (λ setup. numbers setup.accepted) c.numbers.result c.in_ok-setup.ensures.goes_on
     (subst (λ (said : Config). Meets c.numbers.result (numbers said)) c.config.ensures.value c.numbers.ensures.answer)

@@ -14,7 +14,7 @@ returns-in_ok-guest_of-in-Some-clause-answer c =
     let at = ap (λ (name : List ℕ). position (is_part name) config.parts) (sym c.as_bytes.ensures.value) ∙ sym c.part_named.ensures ∙ c.in-Some.is in
     let few = within (is_part name) config.parts c.in-Some.part at in
     let d = element config.parts c.in-Some.part few in
-    ap (guest_of name config) (found_at (is_part name) config.parts c.in-Some.part d at few) ∙ ap Done (sym (c.in_ok-guest_of-in-Some.ensures d))
+    ap (guest_of name config) (found_at (is_part name) config.parts c.in-Some.part d at few) ∙ ap Done (sym (c.in_ok-guest_of-in-Some.ensures.value d))
 
 pub returns-in-None-clause-answer : goal.returns-in-None-clause-answer
 returns-in-None-clause-answer c =

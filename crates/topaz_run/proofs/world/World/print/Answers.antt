@@ -1,6 +1,6 @@
 use Rattle.std.proofs.Common.{◌≡◌, ℕ, ◌-◌, ◌<◌, List, length, sym, ap, subst, ◌∙◌}
 use Rattle.topaz_run.specs.Printed.{KeepsCounts}
-use Rattle.topaz_run.specs.Report.{World, printed_on}
+use Rattle.topaz_run.specs.Report.{World}
 use Rattle.topaz_run.proofs.Counts.{printed_more, printed_length}
 use Rattle.topaz_run.proofs.Freed.{freed}
 use Rattle.topaz_run.proofs.world.World.print.Goals as goal

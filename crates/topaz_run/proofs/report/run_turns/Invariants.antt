@@ -1,7 +1,7 @@
 use Rattle.std.proofs.Common.{◌≡◌, ◌≤◌, ◌-◌}
 use Rattle.topaz_run.specs.Report.{run}
 use Rattle.topaz_run.proofs.Turns.{so_far}
-use Rattle.topaz_run.proofs.run.run_turns.Given as goal
+use Rattle.topaz_run.proofs.report.run_turns.Given as goal
 
 abbrev pub invariant-loop-turn : goal.invariant-loop-turn
 invariant-loop-turn l = record {

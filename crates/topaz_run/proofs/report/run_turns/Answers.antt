@@ -3,8 +3,8 @@ use Rattle.std.proofs.lemmas.Grind.{common_steps}
 use Rattle.topaz_run.specs.Report.{Run, turn, run}
 use Rattle.topaz_run.specs.Outcome.{reported}
 use Rattle.topaz_run.proofs.Turns.{built_by, unbuilt_by, so_far_whole, so_far_at_rest, not_running}
-use Rattle.topaz_run.proofs.run.run_turns.Goals as goal
-use Rattle.topaz_run.proofs.run.run_turns.Goals.{else-loop-turn-test, then-loop-turn-test+then-is_at_rest}
+use Rattle.topaz_run.proofs.report.run_turns.Goals as goal
+use Rattle.topaz_run.proofs.report.run_turns.Goals.{else-loop-turn-test, then-loop-turn-test+then-is_at_rest}
 
 pub returns-then-not-branch-clause-answer : goal.returns-then-not-branch-clause-answer
 returns-then-not-branch-clause-answer c =
