@@ -11,8 +11,8 @@ pub record Service : Type 0 where
 abbrev pub service : ℕ → Call → Service
 service token call = record { token = token; call = call }
 
--- The services. The upper half of a token is its vendor's: 1 is ePAPR's own, whose numbers these are; 2 has the services of
--- partitions, whose numbers are ours.
+-- The services. The upper half of a token is its vendor's: 1 is ePAPR's own, whose numbers these are; 2 is Freescale's, with the numbers
+-- of its hypercalls for partitions. What such a call reads, checks and answers here is ours, and says nothing of Freescale's own.
 unfoldable pub services : List Service
 services =
     service 0x10001 Send

@@ -8,8 +8,8 @@ use guest_regs::Regs;
 
 /// A service of the hypervisor.
 ///
-/// Those from `Send` to `Idle` have the tokens and registers of ePAPR 1.1, chapter 7. The tokens, registers and
-/// statuses of those for partitions, from `Restart` to `Memcpy`, are our own, in the space of vendor 2.
+/// Those from `Send` to `Idle` have the tokens and registers of ePAPR 1.1, chapter 7. Those for partitions, from `Restart`
+/// to `Memcpy`, have the tokens of Freescale's hypercalls, vendor 2; their registers, checks and statuses are our own.
 #[derive(Clone, Copy, Debug, PartialEq, Eq)]
 pub enum Call {
     /// Sends bytes on a byte channel.

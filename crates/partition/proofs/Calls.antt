@@ -1,14 +1,18 @@
 -- The step that comes to a hypercall, and the steps that aren't built.
 use Rattle.std.proofs.Common.{◌≡◌, ◌≢◌, ℕ, ◌==◌, Bool, true, false, cond, ◌&&◌, nat_lt, List, [], ◌∷◌, length, take, ◌↔◌, ◌⊎◌, inl, inr, refl, sym, ap, subst, ◌∙◌}
 use Rattle.guest_regs.specs.Registers.{Registers, gpr_of}
+use Rattle.core_step.specs.declared.answer.Hw.{Hw}
+use Rattle.core_step.specs.declared.answer.Wrote.{Wrote}
 use Rattle.core_step.specs.Step as core
 use Rattle.core_step.proofs.Unchanged.{kept}
 use Rattle.trap_emulate.specs.declared.cause.Cause.{Cause}
 use Rattle.trap_emulate.specs.declared.cause.Cause.TheVariants as cause
-use Rattle.trap_emulate.specs.Clock.{is_decrementer_pending}
 use Rattle.trap_emulate.specs.Entry.{are_interrupts_enabled, may_enter}
+use Rattle.vpic.specs.Controller.{Controller}
 use Rattle.machine_desc.specs.declared.act.Act.{Act as Told}
 use Rattle.machine_desc.specs.declared.act.Act.TheVariants as told
+use Rattle.machine_desc.specs.declared.desc.Desc.{Desc}
+use Rattle.machine_desc.specs.declared.desc.Port.{Port}
 use Rattle.hcall_abi.specs.declared.call.Call.{Call}
 use Rattle.hcall_abi.specs.declared.call.Call.TheVariants as call
 use Rattle.hcall_abi.specs.declared.status.Status.{Status}
@@ -19,41 +23,43 @@ use Rattle.partition.specs.declared.found.Found.TheVariants.{Missing, Unbacked, 
 use Rattle.partition.specs.declared.kind.Kind.{Kind}
 use Rattle.partition.specs.Channels.{Served, refusal, is_channel, is_bad_transfer, sending, receiving, polling, send, receive, poll}
 use Rattle.partition.specs.Found.{lookup}
-use Rattle.partition.specs.Port.{End, kind_at, end_at, room_at}
-use Rattle.partition.specs.Act.{Act, Nothing, Took, Faulted, NotBuilt, act_of, sent, took}
-use Rattle.partition.specs.Machine.{Cpu, Shape}
-use Rattle.partition.specs.Step.{Done, CoreStepped, quiet, served, entered, checked, missed, privileged, handled, still, instruction, acted, begun, core_step, with_registers, shared_ranges, written}
+use Rattle.partition.specs.Port.{End, kinds_of, kind_at, end_at, room_at}
+use Rattle.partition.specs.Act.{Act, Nothing, Took, Rang, Faulted, NotBuilt, act_of, sent, took}
+use Rattle.partition.specs.Interrupts.{is_line_up, is_send, granted, doorbell_send}
+use Rattle.partition.specs.Lending.{IsCoreStepped, KeepsUnbuilt}
+use Rattle.partition.specs.Machine.{Cpu, Shape, shape_of}
+use Rattle.partition.specs.Step.{Done, CoreStepped, quiet, ruled, served, is_pending, pending, entered, checked, missed, handled, still, instruction, acted, begun, not_done, core_step, with_registers, shared_ranges, written}
 use Rattle.partition.specs.Calling.{IsUnbuilt, is_built, service_of}
-use Rattle.partition.proofs.Steps.{core_whole, core_nothing, tells, woken_back}
+use Rattle.partition.proofs.Steps.{acts_on, core_whole, core_nothing, tells, woken_back}
 
 on_false : (b : Bool) (x y : CoreStepped) → b ≡ false → cond b x y ≡ y
 on_false false x y h = refl
 on_false true x y h = absurd (cc)
 
-pub instructs : (shape : Shape) (cpu : Cpu) (ends : List End) (memory : List (List ℕ)) → (is_decrementer_pending cpu.registers && are_interrupts_enabled cpu.registers) ≡ false → cpu.registers.idle ≡ false
-    → acted shape cpu ends memory ≡ instruction shape cpu ends memory
+pub instructs : (shape : Shape) (line : Bool) (cpu : Cpu) (interrupts : Controller) (ends : List End) (memory : List (List ℕ)) → (is_pending line cpu.registers && are_interrupts_enabled cpu.registers) ≡ false → cpu.registers.idle ≡ false
+    → acted shape line cpu interrupts ends memory ≡ instruction shape cpu interrupts ends memory
 unfolding acted
-instructs shape cpu ends memory undisturbed awake = on_false _ _ _ undisturbed ∙ on_false _ _ _ awake
+instructs shape line cpu interrupts ends memory undisturbed awake = on_false _ _ _ undisturbed ∙ on_false _ _ _ awake
 
 -- what an instruction leaves, by its answer
-by : Shape → List End → core.Answer → Cpu → List (List ℕ) → CoreStepped
-by shape ends answer cpu memory =
-    let done : Done = handled shape answer cpu ends in
-    record { cpu = done.cpu; memory = memory; act = done.act; stored = shared_ranges shape.areas (written answer) }
+by : Shape → Controller → List End → core.Answer → Cpu → List (List ℕ) → CoreStepped
+by shape interrupts ends answer cpu memory =
+    let done : Done = handled shape answer cpu interrupts ends in
+    record { cpu = done.cpu; interrupts = done.interrupts; memory = memory; act = done.act; stored = shared_ranges shape.areas (written answer) }
 
-pub hypercall : (shape : Shape) (cpu : Cpu) (ends : List End) (memory : List (List ℕ)) → (core.stepped (lookup shape.areas cpu.translations) cpu.registers memory).answer ≡ core.Hcall
-    → instruction shape cpu ends memory ≡ still (served shape.kinds (call_of (gpr_of cpu.registers 11)) cpu ends) memory
+pub hypercall : (shape : Shape) (cpu : Cpu) (interrupts : Controller) (ends : List End) (memory : List (List ℕ)) → (core.stepped (lookup shape.areas cpu.translations) cpu.registers memory).answer ≡ core.Hcall
+    → instruction shape cpu interrupts ends memory ≡ still (served shape.ports (call_of (gpr_of cpu.registers 11)) cpu interrupts ends) memory
 unfolding instruction handled by
-hypercall shape cpu ends memory e =
+hypercall shape cpu interrupts ends memory e =
     let done : core.Stepped = core.stepped (lookup shape.areas cpu.translations) cpu.registers memory in
     let stays : (done.registers ≡ cpu.registers) × (done.memory ≡ memory) =
     subst (λ a. core.KeepsUnlessDone a cpu.registers done.registers memory done.memory) e (kept (lookup shape.areas cpu.translations) cpu.registers memory) in
-    let of = λ (answer : core.Answer) (registers : Registers) (bytes : List (List ℕ)). let d : CoreStepped = by shape ends answer (with_registers registers cpu) bytes in d in
+    let of = λ (answer : core.Answer) (registers : Registers) (bytes : List (List ℕ)). let d : CoreStepped = by shape interrupts ends answer (with_registers registers cpu) bytes in d in
     ap (λ (a : core.Answer). of a done.registers done.memory) e ∙ ap (λ (r : Registers). of core.Hcall r done.memory) stays.0 ∙ ap (of core.Hcall cpu.registers) stays.1
 
-pub general : (cpu : Cpu) → (begun cpu).registers.gpr ≡ cpu.registers.gpr
+pub general : (line : Bool) (cpu : Cpu) → (begun line cpu).registers.gpr ≡ cpu.registers.gpr
 unfolding begun
-general cpu = ap (λ (r : Registers). r.gpr) (woken_back cpu.registers)
+general line cpu = ap (λ (r : Registers). r.gpr) (woken_back line cpu.registers)
 
 -- ---- what is built
 
@@ -65,8 +71,8 @@ either : (b : Bool) (one other : Done) → IsBuilt one → IsBuilt other → IsB
 either true one other h k = h
 either false one other h k = k
 
-quiet_built : (cpu : Cpu) → IsBuilt (quiet cpu)
-quiet_built cpu = record { built = λ e. absurd (cc) }
+quiet_built : (cpu : Cpu) (interrupts : Controller) → IsBuilt (quiet cpu interrupts)
+quiet_built cpu interrupts = record { built = λ e. absurd (cc) }
 
 sent_built : (handle : ℕ) (bytes : List ℕ) → sent handle bytes ≢ NotBuilt
 sent_built handle [] = λ e. absurd (cc)
@@ -111,100 +117,132 @@ unfolding poll
 poll_served kinds registers ends =
     served_either (is_channel (kind_at kinds (gpr_of registers 3))) (polling ends (gpr_of registers 3)) (refusal status.InvalidArgument) (record { act = λ e. absurd (cc) }) (refusal_served status.InvalidArgument)
 
-checked_built : (cpu : Cpu) → IsBuilt (checked cpu)
-unfolding checked
-checked_built cpu =
-    either (may_enter cause.MachineCheck cpu.registers) (quiet (entered cause.MachineCheck cpu)) (record { cpu = cpu; act = Faulted })
-    (quiet_built _) (record { built = λ e. absurd (cc) })
+doorbell_served : (kinds : List Kind) (registers : Registers) → IsServed (doorbell_send kinds registers)
+unfolding doorbell_send
+doorbell_served kinds registers =
+    served_either (is_send (kind_at kinds (gpr_of registers 3))) (record granted { act = Rang (gpr_of registers 3) }) (refusal status.InvalidArgument) (record { act = λ e. absurd (cc) }) (refusal_served status.InvalidArgument)
 
-missed_built : (reason : Cause) (found : Found) (cpu : Cpu) → IsBuilt (missed reason found cpu)
-missed_built reason Missing cpu = quiet_built _
-missed_built reason Unbacked cpu = checked_built cpu
-missed_built reason (Backed page) cpu = checked_built cpu
+checked_built : (cpu : Cpu) (interrupts : Controller) → IsBuilt (checked cpu interrupts)
+unfolding checked
+checked_built cpu interrupts =
+    either (may_enter cause.MachineCheck cpu.registers) (quiet (entered cause.MachineCheck cpu) interrupts) (record { cpu = cpu; interrupts = interrupts; act = Faulted })
+    (quiet_built _ _) (record { built = λ e. absurd (cc) })
+
+missed_built : (reason : Cause) (found : Found) (cpu : Cpu) (interrupts : Controller) → IsBuilt (missed reason found cpu interrupts)
+missed_built reason Missing cpu interrupts = quiet_built _ _
+missed_built reason Unbacked cpu interrupts = checked_built cpu interrupts
+missed_built reason (Backed page) cpu interrupts = checked_built cpu interrupts
 
 -- a service that isn't built, and one that is
-served_unbuilt : (kinds : List Kind) (c : Call) (cpu : Cpu) (ends : List End) → is_built c ≡ false → served kinds c cpu ends ≡ record { cpu = cpu; act = NotBuilt }
-unfolding served
-served_unbuilt kinds call.Unlisted cpu ends h = absurd (cc)
-served_unbuilt kinds call.Send cpu ends h = absurd (cc)
-served_unbuilt kinds call.Receive cpu ends h = absurd (cc)
-served_unbuilt kinds call.Poll cpu ends h = absurd (cc)
-served_unbuilt kinds _ cpu ends h = refl
+served_unbuilt : (ports : List Port) (c : Call) (cpu : Cpu) (interrupts : Controller) (ends : List End) → is_built c ≡ false → served ports c cpu interrupts ends ≡ record { cpu = cpu; interrupts = interrupts; act = NotBuilt }
+unfolding served ruled
+served_unbuilt ports call.Restart cpu interrupts ends h = refl
+served_unbuilt ports call.GetStatus cpu interrupts ends h = refl
+served_unbuilt ports call.Start cpu interrupts ends h = refl
+served_unbuilt ports call.Stop cpu interrupts ends h = refl
+served_unbuilt ports call.Memcpy cpu interrupts ends h = refl
+served_unbuilt ports _ cpu interrupts ends h = absurd (cc)
 
-not_built : (kinds : List Kind) (c : Call) (cpu : Cpu) (ends : List End) → (served kinds c cpu ends).act ≡ NotBuilt → is_built c ≡ false
-unfolding served
-not_built kinds call.Unlisted cpu ends e = absurd ((refusal_served status.Unimplemented).act e)
-not_built kinds call.Send cpu ends e = absurd ((send_served kinds cpu.registers ends).act e)
-not_built kinds call.Receive cpu ends e = absurd ((receive_served kinds cpu.registers ends).act e)
-not_built kinds call.Poll cpu ends e = absurd ((poll_served kinds cpu.registers ends).act e)
-not_built kinds _ cpu ends e = refl
+not_built : (ports : List Port) (c : Call) (cpu : Cpu) (interrupts : Controller) (ends : List End) → (served ports c cpu interrupts ends).act ≡ NotBuilt → is_built c ≡ false
+unfolding served ruled
+not_built ports call.Send cpu interrupts ends e = absurd ((send_served (kinds_of ports) cpu.registers ends).act e)
+not_built ports call.Receive cpu interrupts ends e = absurd ((receive_served (kinds_of ports) cpu.registers ends).act e)
+not_built ports call.Poll cpu interrupts ends e = absurd ((poll_served (kinds_of ports) cpu.registers ends).act e)
+not_built ports call.DoorbellSend cpu interrupts ends e = absurd ((doorbell_served (kinds_of ports) cpu.registers).act e)
+not_built ports call.Restart cpu interrupts ends e = refl
+not_built ports call.GetStatus cpu interrupts ends e = refl
+not_built ports call.Start cpu interrupts ends e = refl
+not_built ports call.Stop cpu interrupts ends e = refl
+not_built ports call.Memcpy cpu interrupts ends e = refl
+not_built ports _ cpu interrupts ends e = absurd (cc)
 
 -- ---- the steps that aren't built are calls
 
-handled_calls : (shape : Shape) (answer : core.Answer) (cpu : Cpu) (ends : List End) → (handled shape answer cpu ends).act ≡ NotBuilt → answer ≡ core.Hcall
+handled_calls : (shape : Shape) (answer : core.Answer) (cpu : Cpu) (interrupts : Controller) (ends : List End) → (handled shape answer cpu interrupts ends).act ≡ NotBuilt → answer ≡ core.Hcall
 unfolding handled
-handled_calls shape core.Hcall cpu ends e = refl
-handled_calls shape (core.Retired ranges) cpu ends e = absurd ((quiet_built cpu).built e)
-handled_calls shape core.Waiting cpu ends e = absurd ((quiet_built cpu).built e)
-handled_calls shape core.Sc cpu ends e = absurd (cc)
-handled_calls shape (core.Priv insn) cpu ends e = absurd ((quiet_built (privileged insn cpu)).built e)
-handled_calls shape (core.MissData ea store) cpu ends e = absurd ((missed_built _ _ cpu).built e)
-handled_calls shape (core.MissInsn ea) cpu ends e = absurd ((missed_built _ _ cpu).built e)
-handled_calls shape (core.StorageData ea store little) cpu ends e = absurd (cc)
-handled_calls shape (core.StorageInsn little) cpu ends e = absurd (cc)
-handled_calls shape (core.Align ea store) cpu ends e = absurd (cc)
-handled_calls shape (core.Program syndrome) cpu ends e = absurd (cc)
-handled_calls shape core.NoFloat cpu ends e = absurd (cc)
+handled_calls shape core.Hcall cpu interrupts ends e = refl
+handled_calls shape (core.MissData ea store) cpu interrupts ends e = absurd ((missed_built _ _ cpu interrupts).built e)
+handled_calls shape (core.MissInsn ea) cpu interrupts ends e = absurd ((missed_built _ _ cpu interrupts).built e)
+handled_calls shape _ cpu interrupts ends e = absurd (cc)
 
-instruction_calls : (shape : Shape) (cpu : Cpu) (ends : List End) (memory : List (List ℕ)) → (instruction shape cpu ends memory).act ≡ NotBuilt → (core.stepped (lookup shape.areas cpu.translations) cpu.registers memory).answer ≡ core.Hcall
+instruction_calls : (shape : Shape) (cpu : Cpu) (interrupts : Controller) (ends : List End) (memory : List (List ℕ)) → (instruction shape cpu interrupts ends memory).act ≡ NotBuilt → (core.stepped (lookup shape.areas cpu.translations) cpu.registers memory).answer ≡ core.Hcall
 unfolding instruction
-instruction_calls shape cpu ends memory e = handled_calls shape _ _ ends e
+instruction_calls shape cpu interrupts ends memory e = handled_calls shape _ _ interrupts ends e
+
+-- an answer for what isn't built leaves the memory
+pub unbuilt_memory : (act : Told) (shape : Shape) (answer : Hw) (old new : Cpu) (interrupts controller : Controller) (ends : List End) (registers : Registers) (before after : List (List ℕ))
+    → handled shape (core.answered answer) (with_registers registers old) interrupts ends ≡ record { cpu = new; interrupts = controller; act = act_of act }
+    → core.KeepsUnlessDone (core.answered answer) old.registers registers before after → KeepsUnbuilt act before after
+unbuilt_memory told.NotBuilt shape answer old new interrupts controller ends registers before after h kept =
+    let calls = handled_calls shape (core.answered answer) (with_registers registers old) interrupts ends (ap (λ (d : Done). d.act) h) in
+    (subst (λ a. core.KeepsUnlessDone a old.registers registers before after) calls kept).1
+unbuilt_memory _ shape answer old new interrupts controller ends registers before after h kept = tt
 
 -- a choice whose first step is built
 skips : (b : Bool) (one other : CoreStepped) → one.act ≢ NotBuilt → (cond b one other).act ≡ NotBuilt → (b ≡ false) × (other.act ≡ NotBuilt)
 skips true one other h e = absurd (h e)
 skips false one other h e = (refl, e)
 
-acted_calls : (shape : Shape) (cpu : Cpu) (ends : List End) (memory : List (List ℕ)) → (acted shape cpu ends memory).act ≡ NotBuilt
-    → ((is_decrementer_pending cpu.registers && are_interrupts_enabled cpu.registers) ≡ false) × (cpu.registers.idle ≡ false) × ((instruction shape cpu ends memory).act ≡ NotBuilt)
+acted_calls : (shape : Shape) (line : Bool) (cpu : Cpu) (interrupts : Controller) (ends : List End) (memory : List (List ℕ)) → (acted shape line cpu interrupts ends memory).act ≡ NotBuilt
+    → ((is_pending line cpu.registers && are_interrupts_enabled cpu.registers) ≡ false) × (cpu.registers.idle ≡ false) × ((instruction shape cpu interrupts ends memory).act ≡ NotBuilt)
 unfolding acted
-acted_calls shape cpu ends memory e =
-    let first = skips (is_decrementer_pending cpu.registers && are_interrupts_enabled cpu.registers) (still (quiet (entered cause.Decrementer cpu)) memory) _ (quiet_built (entered cause.Decrementer cpu)).built e in
-    let second = skips cpu.registers.idle (still (quiet cpu) memory) (instruction shape cpu ends memory) (quiet_built cpu).built first.1 in
+acted_calls shape line cpu interrupts ends memory e =
+    let first = skips (is_pending line cpu.registers && are_interrupts_enabled cpu.registers) (still (quiet (entered (pending line) cpu) interrupts) memory) _ (quiet_built (entered (pending line) cpu) interrupts).built e in
+    let second = skips cpu.registers.idle (still (quiet cpu interrupts) memory) (instruction shape cpu interrupts ends memory) (quiet_built cpu interrupts).built first.1 in
     (first.0, second.0, second.1)
+
+-- what isn't built leaves the core, the controller and the memory
+acted_nothing : (shape : Shape) (line : Bool) (cpu : Cpu) (interrupts : Controller) (ends : List End) (memory : List (List ℕ)) → (acted shape line cpu interrupts ends memory).act ≡ NotBuilt
+    → acted shape line cpu interrupts ends memory ≡ not_done cpu interrupts memory
+acted_nothing shape line cpu interrupts ends memory e =
+    let parts = acted_calls shape line cpu interrupts ends memory e in
+    let service = call_of (gpr_of cpu.registers 11) in
+    let does : acted shape line cpu interrupts ends memory ≡ still (served shape.ports service cpu interrupts ends) memory =
+    instructs shape line cpu interrupts ends memory parts.0 parts.1 ∙ hypercall shape cpu interrupts ends memory (instruction_calls shape cpu interrupts ends memory parts.2) in
+    let unbuilt : is_built service ≡ false = not_built shape.ports service cpu interrupts ends (sym (ap (λ (s : CoreStepped). s.act) does) ∙ e) in
+    does ∙ ap (λ (d : Done). still d memory) (served_unbuilt shape.ports service cpu interrupts ends unbuilt)
+
+pub left_core : (desc : Desc) (line : Bool) (mid done : Cpu) (interrupts controller : Controller) (ends : List End) (memory after : List (List ℕ)) (act : Told) (ranges : List Wrote) (names : List ℕ) → act ≡ told.NotBuilt
+    → IsCoreStepped names (acted (shape_of desc) line mid interrupts ends memory) done controller after act ranges → (done ≡ mid) × (controller ≡ interrupts)
+left_core desc line mid done interrupts controller ends memory after act ranges names is h =
+    let nothing = acted_nothing (shape_of desc) line mid interrupts ends memory (h.act ∙ ap act_of is) in
+    (sym h.cpu ∙ ap (λ (d : CoreStepped). d.cpu) nothing, sym h.interrupts ∙ ap (λ (d : CoreStepped). d.interrupts) nothing)
 
 pub decide : (act : Act) → (act ≡ NotBuilt) ⊎ (act ≢ NotBuilt)
 decide NotBuilt = inl refl
 decide _ = inr (λ e. absurd (cc))
 
-step_acts : (shape : Shape) (cpu : Cpu) (ends : List End) (memory : List (List ℕ)) → (core_step shape cpu ends memory).act ≡ NotBuilt → (acted shape (begun cpu) ends memory).act ≡ NotBuilt
-step_acts shape cpu ends memory e =
-    elim (decide (acted shape (begun cpu) ends memory).act) as (λ _. (acted shape (begun cpu) ends memory).act ≡ NotBuilt) [
+step_acts : (shape : Shape) (cpu : Cpu) (interrupts : Controller) (ends : List End) (memory : List (List ℕ)) → (core_step shape cpu interrupts ends memory).act ≡ NotBuilt → (acts_on shape cpu interrupts ends memory).act ≡ NotBuilt
+step_acts shape cpu interrupts ends memory e =
+    elim (decide (acts_on shape cpu interrupts ends memory).act) as (λ _. (acts_on shape cpu interrupts ends memory).act ≡ NotBuilt) [
       | inl is ↦ is
-      | inr is_not ↦ ap (λ (d : CoreStepped). d.act) (sym (core_whole shape cpu ends memory is_not)) ∙ e
+      | inr is_not ↦ ap (λ (d : CoreStepped). d.act) (sym (core_whole shape cpu interrupts ends memory is_not)) ∙ e
     ]
 
-calls_unbuilt : (shape : Shape) (cpu : Cpu) (ends : List End) (memory : List (List ℕ)) → (core_step shape cpu ends memory).act ≡ NotBuilt → IsUnbuilt shape cpu memory
-calls_unbuilt shape cpu ends memory e =
-    let ready : Cpu = begun cpu in
-    let parts = acted_calls shape ready ends memory (step_acts shape cpu ends memory e) in
-    let calls = instruction_calls shape ready ends memory parts.2 in
-    let service : (served shape.kinds (service_of cpu) ready ends).act ≡ NotBuilt = ap (λ (s : CoreStepped). s.act) (sym (hypercall shape ready ends memory calls)) ∙ parts.2 in
+calls_unbuilt : (shape : Shape) (cpu : Cpu) (interrupts : Controller) (ends : List End) (memory : List (List ℕ)) → (core_step shape cpu interrupts ends memory).act ≡ NotBuilt → IsUnbuilt shape cpu interrupts ends memory
+calls_unbuilt shape cpu interrupts ends memory e =
+    let line = is_line_up shape.ports interrupts ends in
+    let ready : Cpu = begun line cpu in
+    let parts = acted_calls shape line ready interrupts ends memory (step_acts shape cpu interrupts ends memory e) in
+    let calls = instruction_calls shape ready interrupts ends memory parts.2 in
+    let service : (served shape.ports (service_of line cpu) ready interrupts ends).act ≡ NotBuilt = ap (λ (s : CoreStepped). s.act) (sym (hypercall shape ready interrupts ends memory calls)) ∙ parts.2 in
     record {
       calls = record { undisturbed = parts.0; awake = parts.1; call = calls };
-      unbuilt = not_built shape.kinds (service_of cpu) ready ends service;
+      unbuilt = not_built shape.ports (service_of line cpu) ready interrupts ends service;
     }
 
 -- and the calls for what isn't built aren't done
-unbuilt_call : (shape : Shape) (cpu : Cpu) (ends : List End) (memory : List (List ℕ)) → IsUnbuilt shape cpu memory → (core_step shape cpu ends memory).act ≡ NotBuilt
-unbuilt_call shape cpu ends memory h =
-    let ready : Cpu = begun cpu in
-    let does : acted shape ready ends memory ≡ still (record { cpu = ready; act = NotBuilt }) memory =
-    instructs shape ready ends memory h.calls.undisturbed h.calls.awake ∙ (hypercall shape ready ends memory h.calls.call ∙ ap (λ (d : Done). still d memory) (served_unbuilt shape.kinds (service_of cpu) ready ends h.unbuilt)) in
-    ap (λ (d : CoreStepped). d.act) (core_nothing shape cpu ends memory (ap (λ (s : CoreStepped). s.act) does))
+unbuilt_call : (shape : Shape) (cpu : Cpu) (interrupts : Controller) (ends : List End) (memory : List (List ℕ)) → IsUnbuilt shape cpu interrupts ends memory → (core_step shape cpu interrupts ends memory).act ≡ NotBuilt
+unbuilt_call shape cpu interrupts ends memory h =
+    let line = is_line_up shape.ports interrupts ends in
+    let ready : Cpu = begun line cpu in
+    let does : acted shape line ready interrupts ends memory ≡ not_done ready interrupts memory =
+    instructs shape line ready interrupts ends memory h.calls.undisturbed h.calls.awake
+    ∙ (hypercall shape ready interrupts ends memory h.calls.call ∙ ap (λ (d : Done). still d memory) (served_unbuilt shape.ports (service_of line cpu) ready interrupts ends h.unbuilt)) in
+    ap (λ (d : CoreStepped). d.act) (core_nothing shape cpu interrupts ends memory (ap (λ (s : CoreStepped). s.act) does))
 
-pub told_unbuilt : (shape : Shape) (cpu : Cpu) (ends : List End) (memory : List (List ℕ)) (act : Told) → (core_step shape cpu ends memory).act ≡ act_of act → (act ≡ told.NotBuilt) ↔ IsUnbuilt shape cpu memory
-told_unbuilt shape cpu ends memory act e = (
-  λ h. calls_unbuilt shape cpu ends memory (e ∙ ap act_of h),
-  λ h. tells act (sym e ∙ unbuilt_call shape cpu ends memory h),
+pub told_unbuilt : (shape : Shape) (cpu : Cpu) (interrupts : Controller) (ends : List End) (memory : List (List ℕ)) (act : Told) → (core_step shape cpu interrupts ends memory).act ≡ act_of act → (act ≡ told.NotBuilt) ↔ IsUnbuilt shape cpu interrupts ends memory
+told_unbuilt shape cpu interrupts ends memory act e = (
+  λ h. calls_unbuilt shape cpu interrupts ends memory (e ∙ ap act_of h),
+  λ h. tells act (sym e ∙ unbuilt_call shape cpu interrupts ends memory h),
 )

@@ -1,3 +1,6 @@
+pub mod Lent
+pub mod Levels
+pub mod Latched
 pub mod Areas
 pub mod Backed
 pub mod Steps

@@ -8,23 +8,23 @@ use Rattle.guest_tlb.proofs.Upkeep.{reset_is_kept}
 use Rattle.core_step.specs.Step as core
 use Rattle.trap_emulate.specs.declared.cause.Cause.{Cause}
 use Rattle.trap_emulate.specs.declared.cause.Cause.TheVariants as cause
-use Rattle.trap_emulate.specs.Clock.{is_decrementer_pending}
 use Rattle.trap_emulate.specs.Entry.{are_interrupts_enabled, may_enter}
 use Rattle.trap_emulate.proofs.Translations.{emulation_keeps_victim, emulation_keeps_slots}
 use Rattle.machine_desc.specs.declared.desc.Desc.{Desc}
+use Rattle.machine_desc.specs.declared.desc.Port.{Port}
 use Rattle.hcall_abi.specs.declared.call.Call.{Call}
 use Rattle.hcall_abi.specs.declared.call.Call.TheVariants as call
 use Rattle.partition.specs.declared.found.Found.{Found}
 use Rattle.partition.specs.declared.found.Found.TheVariants.{Missing, Unbacked, Backed}
-use Rattle.partition.specs.declared.kind.Kind.{Kind}
-use Rattle.hcall_abi.specs.declared.status.Status.TheVariants.{Unimplemented}
-use Rattle.partition.specs.Channels.{Served, refusal, send, receive, poll}
+use Rattle.hcall_abi.specs.Reply.{Reply}
+use Rattle.vpic.specs.Controller.{Controller}
+use Rattle.partition.specs.Interrupts.{is_line_up}
 use Rattle.partition.specs.Found.{lookup}
 use Rattle.partition.specs.Port.{End}
 use Rattle.partition.specs.Act.{Act, NotBuilt}
 use Rattle.partition.specs.Machine.{Cpu, Machine, Shape, shape_of, core_at, no_cpu, booted, booted_all, fresh}
-use Rattle.partition.specs.Step.{Done, CoreStepped, quiet, with_registers, entered, answered, answering, served, checked, missed, privileged, handled, still, instruction, begun, acted, unless_unbuilt, core_step, step}
-use Rattle.partition.specs.Event.{Event, Bytes, Room, Tells, Start, Stop, Restart, apply}
+use Rattle.partition.specs.Step.{Done, CoreStepped, quiet, with_registers, entered, answered, waiting, ruled, served, checked, missed, privileged, handled, still, instruction, begun, is_pending, pending, acted, unless_unbuilt, not_done, core_step, step}
+use Rattle.partition.specs.Event.{Event, Bytes, Room, Ring, Tells, Start, Stop, Restart, apply}
 use Rattle.partition.specs.Reached.{Move, Steps, Takes, moved, after_moves, TranslationsStaySound}
 
 -- ---- the step of a core
@@ -42,29 +42,31 @@ of_either : (b : Bool) (one other : CoreStepped) → Keeps one.cpu → Keeps oth
 of_either true one other h k = h
 of_either false one other h k = k
 
-stays_answered : (cpu : Cpu) (it : Served) → Keeps cpu → Keeps (answering it cpu).cpu
+stays_answered : (cpu : Cpu) (it : Reply) → Keeps cpu → Keeps (answered it cpu)
 unfolding answered
 stays_answered cpu it h = record { slots = h.slots; victim = h.victim }
 
-stays_served : (kinds : List Kind) (service : Call) (cpu : Cpu) (ends : List End) → Keeps cpu → Keeps (served kinds service cpu ends).cpu
-unfolding served
-stays_served kinds call.Send cpu ends h = stays_answered cpu (send kinds cpu.registers ends) h
-stays_served kinds call.Receive cpu ends h = stays_answered cpu (receive kinds cpu.registers ends) h
-stays_served kinds call.Poll cpu ends h = stays_answered cpu (poll kinds cpu.registers ends) h
-stays_served kinds call.Unlisted cpu ends h = stays_answered cpu (refusal Unimplemented) h
-stays_served kinds _ cpu ends h = record { slots = h.slots; victim = h.victim }
+stays_served : (ports : List Port) (service : Call) (cpu : Cpu) (interrupts : Controller) (ends : List End) → Keeps cpu → Keeps (served ports service cpu interrupts ends).cpu
+unfolding served ruled
+stays_served ports call.Idle cpu interrupts ends h = stays_answered (waiting cpu) _ (record { slots = h.slots; victim = h.victim })
+stays_served ports call.Restart cpu interrupts ends h = h
+stays_served ports call.GetStatus cpu interrupts ends h = h
+stays_served ports call.Start cpu interrupts ends h = h
+stays_served ports call.Stop cpu interrupts ends h = h
+stays_served ports call.Memcpy cpu interrupts ends h = h
+stays_served ports _ cpu interrupts ends h = stays_answered cpu _ h
 
 stays_entered : (reason : Cause) (cpu : Cpu) → Keeps cpu → Keeps (entered reason cpu)
 stays_entered reason cpu h = record { slots = h.slots; victim = h.victim }
 
-stays_checked : (cpu : Cpu) → Keeps cpu → Keeps (checked cpu).cpu
+stays_checked : (cpu : Cpu) (interrupts : Controller) → Keeps cpu → Keeps (checked cpu interrupts).cpu
 unfolding checked
-stays_checked cpu h = either (may_enter cause.MachineCheck cpu.registers) _ _ (stays_entered cause.MachineCheck cpu h) (record { slots = h.slots; victim = h.victim })
+stays_checked cpu interrupts h = either (may_enter cause.MachineCheck cpu.registers) _ _ (stays_entered cause.MachineCheck cpu h) (record { slots = h.slots; victim = h.victim })
 
-stays_missed : (reason : Cause) (found : Found) (cpu : Cpu) → Keeps cpu → Keeps (missed reason found cpu).cpu
-stays_missed reason Missing cpu h = stays_entered reason cpu h
-stays_missed reason Unbacked cpu h = stays_checked cpu h
-stays_missed reason (Backed page) cpu h = stays_checked cpu h
+stays_missed : (reason : Cause) (found : Found) (cpu : Cpu) (interrupts : Controller) → Keeps cpu → Keeps (missed reason found cpu interrupts).cpu
+stays_missed reason Missing cpu interrupts h = stays_entered reason cpu h
+stays_missed reason Unbacked cpu interrupts h = stays_checked cpu interrupts h
+stays_missed reason (Backed page) cpu interrupts h = stays_checked cpu interrupts h
 
 stays_privileged : (cpu : Cpu) (insn : _) → Keeps cpu → Keeps (privileged insn cpu)
 unfolding privileged
@@ -73,45 +75,47 @@ stays_privileged cpu insn h = record {
   victim = emulation_keeps_victim insn.op insn.word cpu.next_victim cpu.registers cpu.translations h.victim;
 }
 
-stays_handled : (shape : Shape) (answer : core.Answer) (cpu : Cpu) (ends : List End) → Keeps cpu → Keeps (handled shape answer cpu ends).cpu
+stays_handled : (shape : Shape) (answer : core.Answer) (cpu : Cpu) (interrupts : Controller) (ends : List End) → Keeps cpu → Keeps (handled shape answer cpu interrupts ends).cpu
 unfolding handled
-stays_handled shape (core.Retired ranges) cpu ends h = h
-stays_handled shape core.Waiting cpu ends h = h
-stays_handled shape core.Sc cpu ends h = stays_entered _ cpu h
-stays_handled shape core.Hcall cpu ends h = stays_served shape.kinds _ cpu ends h
-stays_handled shape (core.Priv insn) cpu ends h = stays_privileged cpu insn h
-stays_handled shape (core.MissData ea store) cpu ends h = stays_missed _ _ cpu h
-stays_handled shape (core.MissInsn ea) cpu ends h = stays_missed _ _ cpu h
-stays_handled shape (core.StorageData ea store little) cpu ends h = stays_entered _ cpu h
-stays_handled shape (core.StorageInsn little) cpu ends h = stays_entered _ cpu h
-stays_handled shape (core.Align ea store) cpu ends h = stays_entered _ cpu h
-stays_handled shape (core.Program syndrome) cpu ends h = stays_entered _ cpu h
-stays_handled shape core.NoFloat cpu ends h = stays_entered _ cpu h
+stays_handled shape (core.Retired ranges) cpu interrupts ends h = h
+stays_handled shape core.Waiting cpu interrupts ends h = h
+stays_handled shape core.Sc cpu interrupts ends h = stays_entered _ cpu h
+stays_handled shape core.Hcall cpu interrupts ends h = stays_served shape.ports _ cpu interrupts ends h
+stays_handled shape (core.Priv insn) cpu interrupts ends h = stays_privileged cpu insn h
+stays_handled shape (core.MissData ea store) cpu interrupts ends h = stays_missed _ _ cpu interrupts h
+stays_handled shape (core.MissInsn ea) cpu interrupts ends h = stays_missed _ _ cpu interrupts h
+stays_handled shape (core.StorageData ea store little) cpu interrupts ends h = stays_entered _ cpu h
+stays_handled shape (core.StorageInsn little) cpu interrupts ends h = stays_entered _ cpu h
+stays_handled shape (core.Align ea store) cpu interrupts ends h = stays_entered _ cpu h
+stays_handled shape (core.Program syndrome) cpu interrupts ends h = stays_entered _ cpu h
+stays_handled shape core.NoFloat cpu interrupts ends h = stays_entered _ cpu h
 
-stays_instruction : (shape : Shape) (cpu : Cpu) (ends : List End) (memory : List (List ℕ)) → Keeps cpu → Keeps (instruction shape cpu ends memory).cpu
+stays_instruction : (shape : Shape) (cpu : Cpu) (interrupts : Controller) (ends : List End) (memory : List (List ℕ)) → Keeps cpu → Keeps (instruction shape cpu interrupts ends memory).cpu
 unfolding instruction
-stays_instruction shape cpu ends memory h =
+stays_instruction shape cpu interrupts ends memory h =
     let did : core.Stepped = core.stepped (lookup shape.areas cpu.translations) cpu.registers memory in
-    stays_handled shape did.answer (with_registers did.registers cpu) ends (record { slots = h.slots; victim = h.victim })
+    stays_handled shape did.answer (with_registers did.registers cpu) interrupts ends (record { slots = h.slots; victim = h.victim })
 
-stays_acted : (shape : Shape) (cpu : Cpu) (ends : List End) (memory : List (List ℕ)) → Keeps cpu → Keeps (acted shape cpu ends memory).cpu
+stays_acted : (shape : Shape) (line : Bool) (cpu : Cpu) (interrupts : Controller) (ends : List End) (memory : List (List ℕ)) → Keeps cpu → Keeps (acted shape line cpu interrupts ends memory).cpu
 unfolding acted
-stays_acted shape cpu ends memory h =
-    of_either (is_decrementer_pending cpu.registers && are_interrupts_enabled cpu.registers) (still (quiet (entered cause.Decrementer cpu)) memory) _ (stays_entered _ cpu h)
-    (of_either cpu.registers.idle (still (quiet cpu) memory) _ h (stays_instruction shape cpu ends memory h))
+stays_acted shape line cpu interrupts ends memory h =
+    of_either (is_pending line cpu.registers && are_interrupts_enabled cpu.registers) (still (quiet (entered (pending line) cpu) interrupts) memory) _ (stays_entered _ cpu h)
+    (of_either cpu.registers.idle (still (quiet cpu interrupts) memory) _ h (stays_instruction shape cpu interrupts ends memory h))
 
-stays_begun : (cpu : Cpu) → Keeps cpu → Keeps (begun cpu)
+stays_begun : (line : Bool) (cpu : Cpu) → Keeps cpu → Keeps (begun line cpu)
 unfolding begun
-stays_begun cpu h = record { slots = h.slots; victim = h.victim }
+stays_begun line cpu h = record { slots = h.slots; victim = h.victim }
 
-stays_unless : (act : Act) (done : CoreStepped) (cpu : Cpu) (memory : List (List ℕ)) → Keeps cpu → Keeps done.cpu → Keeps (unless_unbuilt act done cpu memory).cpu
-stays_unless NotBuilt done cpu memory h k = h
-stays_unless _ done cpu memory h k = k
+stays_unless : (act : Act) (done nothing : CoreStepped) → Keeps nothing.cpu → Keeps done.cpu → Keeps (unless_unbuilt act done nothing).cpu
+stays_unless NotBuilt done nothing h k = h
+stays_unless _ done nothing h k = k
 
-stays_core : (shape : Shape) (cpu : Cpu) (ends : List End) (memory : List (List ℕ)) → Keeps cpu → Keeps (core_step shape cpu ends memory).cpu
+stays_core : (shape : Shape) (cpu : Cpu) (interrupts : Controller) (ends : List End) (memory : List (List ℕ)) → Keeps cpu → Keeps (core_step shape cpu interrupts ends memory).cpu
 unfolding core_step
-stays_core shape cpu ends memory h =
-    stays_unless (acted shape (begun cpu) ends memory).act (acted shape (begun cpu) ends memory) cpu memory h (stays_acted shape (begun cpu) ends memory (stays_begun cpu h))
+stays_core shape cpu interrupts ends memory h =
+    let line = is_line_up shape.ports interrupts ends in
+    let done : CoreStepped = acted shape line (begun line cpu) interrupts ends memory in
+    stays_unless done.act done (not_done cpu interrupts memory) h (stays_acted shape line (begun line cpu) interrupts ends memory (stays_begun line cpu h))
 
 -- ---- all cores
 
@@ -135,7 +139,7 @@ stays_set cores core cpu all new k below =
 stays_step : (desc : Desc) (machine : Machine) (core : ℕ) (feed : List ℕ) → AllKeep machine.inner.cores → AllKeep (step desc machine core feed).after.inner.cores
 unfolding step
 stays_step desc machine core feed all =
-    stays_set machine.inner.cores core _ all (λ here. stays_core (shape_of desc) (core_at machine.inner.cores core) machine.ports machine.memory (all core here))
+    stays_set machine.inner.cores core _ all (λ here. stays_core (shape_of desc) (core_at machine.inner.cores core) machine.inner.interrupts machine.ports machine.memory (all core here))
 
 starts : (entry tree_at number : ℕ) → Keeps (booted entry tree_at number)
 unfolding booted
@@ -152,6 +156,7 @@ stays_told : (desc : Desc) (machine : Machine) (event : Event) → AllKeep machi
 unfolding apply
 stays_told desc machine (Bytes handle bytes) all = all
 stays_told desc machine (Room handle count) all = all
+stays_told desc machine (Ring handle) all = all
 stays_told desc machine (Tells handle runs) all = all
 stays_told desc machine (Start entry load) all = stays_booted desc entry
 stays_told desc machine Stop all = all

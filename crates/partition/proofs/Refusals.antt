@@ -1,7 +1,11 @@
 -- A hypercall that was not done leaves the rest as it was.
-use Rattle.std.proofs.Common.{◌≡◌, ℕ, Bool, true, false, cond, nat_lt, List, [], ◌∷◌, length, take, set, get_or-set_other, refl, sym, ap, subst, ◌∙◌, arith}
+use Rattle.std.proofs.Common.{◌≡◌, ℕ, Bool, true, false, cond, nat_lt, List, [], ◌∷◌, length, take, set, get_or-set_other, Option, Some, None, slice_get, refl, sym, ap, subst, ◌∙◌, arith}
 use Rattle.guest_regs.specs.Registers.{gpr_of, advanced}
 use Rattle.machine_desc.specs.declared.act.State.TheVariants.{Running}
+use Rattle.machine_desc.specs.declared.desc.Port.{Port}
+use Rattle.vpic.specs.declared.source.Source.{Source}
+use Rattle.vpic.specs.Controller.{Controller, is_number}
+use Rattle.vpic.specs.Calls.{is_in_service, ended, may_configure, configured, with_mask, mask_of, may_set_task, with_task}
 use Rattle.hcall_abi.specs.declared.call.Call.{Call}
 use Rattle.hcall_abi.specs.declared.call.Call.TheVariants as call
 use Rattle.hcall_abi.specs.declared.status.Status.{Status}
@@ -12,25 +16,27 @@ use Rattle.hcall_abi.specs.Status.{code_of}
 use Rattle.hcall_abi.proofs.Registers.{first}
 use Rattle.partition.specs.declared.kind.Kind.{Kind}
 use Rattle.partition.specs.Channels.{Served, refusal, is_channel, is_bad_transfer, sending, receiving, polling, send, receive, poll}
-use Rattle.partition.specs.Port.{End, kind_at, end_at, room_at}
-use Rattle.partition.specs.Act.{sent, state_after}
+use Rattle.partition.specs.Port.{End, kinds_of, kind_at, end_at, room_at}
+use Rattle.partition.specs.Act.{Rang, sent, state_after}
+use Rattle.partition.specs.Interrupts.{Ruled, is_line_up, levels, is_send, granted, doorbell_send, done, refused, telling_config, telling_mask, set_config, get_config, set_mask, get_mask, acknowledge, end_of_interrupt, set_task_priority, get_task_priority}
 use Rattle.partition.specs.Machine.{Cpu}
-use Rattle.partition.specs.Step.{Done, CoreStepped, still, answered, answering, served, begun}
+use Rattle.partition.specs.Step.{Done, CoreStepped, still, answered, answering, ruling, waiting, ruled, served, begun}
 use Rattle.partition.proofs.Steps.{core_whole, core_nothing}
 use Rattle.partition.proofs.Calls.{instructs, hypercall, general}
 use Rattle.partition.specs.Refusal.{RefusesQuietly, RefusalsAreQuiet}
 
 -- what a hypercall leaves refuses quietly
-abbrev IsQuiet : Cpu → List End → List (List ℕ) → Done → Type 0
-IsQuiet cpu ends memory done = RefusesQuietly cpu ends memory (still done memory)
+abbrev IsQuiet : Cpu → Controller → List End → List (List ℕ) → Done → Type 0
+IsQuiet cpu interrupts ends memory done = RefusesQuietly cpu interrupts ends memory (still done memory)
 
 -- by a status alone r3 changes
-quiet-refusal : (s : Status) (cpu : Cpu) (ends : List End) (memory : List (List ℕ)) → IsQuiet cpu ends memory (answering (refusal s) cpu)
+quiet-refusal : (s : Status) (cpu : Cpu) (interrupts : Controller) (ends : List End) (memory : List (List ℕ)) → IsQuiet cpu interrupts ends memory (answering (refusal s) cpu interrupts)
 unfolding answered advanced replied
-quiet-refusal s cpu ends memory _ = (
+quiet-refusal s cpu interrupts ends memory _ = (
   record {
     bytes = refl;
     stored = refl;
+    interrupts = refl;
     translations = refl;
     next_victim = refl;
     state = refl;
@@ -49,20 +55,21 @@ unfolding answered advanced replied
 third reply cpu all = first 3 reply.status reply.outs cpu.registers (omega (arith, all))
 
 -- what is done isn't refused
-quiet-done : (it : Served) (cpu : Cpu) (ends : List End) (memory : List (List ℕ)) → length cpu.registers.gpr ≡ 32 → it.reply.status ≡ 0 → IsQuiet cpu ends memory (answering it cpu)
-quiet-done it cpu ends memory all success refused = absurd (refused (third it.reply cpu all ∙ success))
+quiet-done : (it : Served) (cpu : Cpu) (interrupts : Controller) (ends : List End) (memory : List (List ℕ)) → length cpu.registers.gpr ≡ 32 → it.reply.status ≡ 0 → IsQuiet cpu interrupts ends memory (answering it cpu interrupts)
+quiet-done it cpu interrupts ends memory all success refused = absurd (refused (third it.reply cpu all ∙ success))
 
 runs_on : (handle : ℕ) (bytes : List ℕ) → state_after (sent handle bytes) ≡ Running
 runs_on handle [] = refl
 runs_on handle (byte ∷ bytes) = refl
 
 -- what is sent in part leaves r3 and r4
-quiet-try_again : (handle count : ℕ) (cpu : Cpu) (ends : List End) (memory : List (List ℕ)) → length cpu.registers.gpr ≡ 32 → IsQuiet cpu ends memory (answering (sending status.TryAgain handle count cpu.registers) cpu)
+quiet-try_again : (handle count : ℕ) (cpu : Cpu) (interrupts : Controller) (ends : List End) (memory : List (List ℕ)) → length cpu.registers.gpr ≡ 32 → IsQuiet cpu interrupts ends memory (answering (sending status.TryAgain handle count cpu.registers) cpu interrupts)
 unfolding answered advanced replied
-quiet-try_again handle count cpu ends memory all refused = (
+quiet-try_again handle count cpu interrupts ends memory all refused = (
   record {
     bytes = refl;
     stored = refl;
+    interrupts = refl;
     translations = refl;
     next_victim = refl;
     state = runs_on handle _;
@@ -73,46 +80,127 @@ quiet-try_again handle count cpu ends memory all refused = (
 )
 
 -- a choice between two that do
-quiet-either : (test : Bool) (one other : Served) (cpu : Cpu) (ends : List End) (memory : List (List ℕ)) → IsQuiet cpu ends memory (answering one cpu) → IsQuiet cpu ends memory (answering other cpu) → IsQuiet cpu ends memory (answering (cond test one other) cpu)
-quiet-either true one other cpu ends memory h k = h
-quiet-either false one other cpu ends memory h k = k
+quiet-either : (test : Bool) (one other : Served) (cpu : Cpu) (interrupts : Controller) (ends : List End) (memory : List (List ℕ)) → IsQuiet cpu interrupts ends memory (answering one cpu interrupts) → IsQuiet cpu interrupts ends memory (answering other cpu interrupts) → IsQuiet cpu interrupts ends memory (answering (cond test one other) cpu interrupts)
+quiet-either true one other cpu interrupts ends memory h k = h
+quiet-either false one other cpu interrupts ends memory h k = k
 
-quiet-send : (kinds : List Kind) (cpu : Cpu) (ends : List End) (memory : List (List ℕ)) → length cpu.registers.gpr ≡ 32 → IsQuiet cpu ends memory (answering (send kinds cpu.registers ends) cpu)
+quiet-send : (kinds : List Kind) (cpu : Cpu) (interrupts : Controller) (ends : List End) (memory : List (List ℕ)) → length cpu.registers.gpr ≡ 32 → IsQuiet cpu interrupts ends memory (answering (send kinds cpu.registers ends) cpu interrupts)
 unfolding send
-quiet-send kinds cpu ends memory all =
+quiet-send kinds cpu interrupts ends memory all =
     let handle = gpr_of cpu.registers 3 in
     let count = gpr_of cpu.registers 4 in
     let room = room_at ends handle in
-    quiet-either (is_bad_transfer kinds cpu.registers) (refusal status.InvalidArgument) (cond (nat_lt room count) (sending status.TryAgain handle room cpu.registers) (sending status.Success handle count cpu.registers)) cpu ends memory (quiet-refusal status.InvalidArgument cpu ends memory)
-    (quiet-either (nat_lt room count) (sending status.TryAgain handle room cpu.registers) (sending status.Success handle count cpu.registers) cpu ends memory (quiet-try_again handle room cpu ends memory all) (quiet-done (sending status.Success handle count cpu.registers) cpu ends memory all refl))
+    quiet-either (is_bad_transfer kinds cpu.registers) (refusal status.InvalidArgument) (cond (nat_lt room count) (sending status.TryAgain handle room cpu.registers) (sending status.Success handle count cpu.registers)) cpu interrupts ends memory (quiet-refusal status.InvalidArgument cpu interrupts ends memory)
+    (quiet-either (nat_lt room count) (sending status.TryAgain handle room cpu.registers) (sending status.Success handle count cpu.registers) cpu interrupts ends memory (quiet-try_again handle room cpu interrupts ends memory all) (quiet-done (sending status.Success handle count cpu.registers) cpu interrupts ends memory all refl))
 
-quiet-receive : (kinds : List Kind) (cpu : Cpu) (ends : List End) (memory : List (List ℕ)) → length cpu.registers.gpr ≡ 32 → IsQuiet cpu ends memory (answering (receive kinds cpu.registers ends) cpu)
+quiet-receive : (kinds : List Kind) (cpu : Cpu) (interrupts : Controller) (ends : List End) (memory : List (List ℕ)) → length cpu.registers.gpr ≡ 32 → IsQuiet cpu interrupts ends memory (answering (receive kinds cpu.registers ends) cpu interrupts)
 unfolding receive
-quiet-receive kinds cpu ends memory all =
+quiet-receive kinds cpu interrupts ends memory all =
     let handle = gpr_of cpu.registers 3 in
     let bytes = take (gpr_of cpu.registers 4) (end_at ends handle).received in
-    quiet-either (is_bad_transfer kinds cpu.registers) (refusal status.InvalidArgument) (receiving handle bytes) cpu ends memory (quiet-refusal status.InvalidArgument cpu ends memory) (quiet-done (receiving handle bytes) cpu ends memory all refl)
+    quiet-either (is_bad_transfer kinds cpu.registers) (refusal status.InvalidArgument) (receiving handle bytes) cpu interrupts ends memory (quiet-refusal status.InvalidArgument cpu interrupts ends memory) (quiet-done (receiving handle bytes) cpu interrupts ends memory all refl)
 
-quiet-poll : (kinds : List Kind) (cpu : Cpu) (ends : List End) (memory : List (List ℕ)) → length cpu.registers.gpr ≡ 32 → IsQuiet cpu ends memory (answering (poll kinds cpu.registers ends) cpu)
+quiet-poll : (kinds : List Kind) (cpu : Cpu) (interrupts : Controller) (ends : List End) (memory : List (List ℕ)) → length cpu.registers.gpr ≡ 32 → IsQuiet cpu interrupts ends memory (answering (poll kinds cpu.registers ends) cpu interrupts)
 unfolding poll
-quiet-poll kinds cpu ends memory all =
+quiet-poll kinds cpu interrupts ends memory all =
     let handle = gpr_of cpu.registers 3 in
-    quiet-either (is_channel (kind_at kinds handle)) (polling ends handle) (refusal status.InvalidArgument) cpu ends memory (quiet-done (polling ends handle) cpu ends memory all refl) (quiet-refusal status.InvalidArgument cpu ends memory)
+    quiet-either (is_channel (kind_at kinds handle)) (polling ends handle) (refusal status.InvalidArgument) cpu interrupts ends memory (quiet-done (polling ends handle) cpu interrupts ends memory all refl) (quiet-refusal status.InvalidArgument cpu interrupts ends memory)
 
-quiet-served : (kinds : List Kind) (service : Call) (cpu : Cpu) (ends : List End) (memory : List (List ℕ)) → length cpu.registers.gpr ≡ 32 → IsQuiet cpu ends memory (served kinds service cpu ends)
-unfolding served
-quiet-served kinds call.Send cpu ends memory all = quiet-send kinds cpu ends memory all
-quiet-served kinds call.Receive cpu ends memory all = quiet-receive kinds cpu ends memory all
-quiet-served kinds call.Poll cpu ends memory all = quiet-poll kinds cpu ends memory all
-quiet-served kinds call.Unlisted cpu ends memory all = quiet-refusal status.Unimplemented cpu ends memory
-quiet-served kinds _ cpu ends memory all = λ _.
-    (record { bytes = refl; stored = refl; translations = refl; next_victim = refl; state = refl; others = refl; registers = λ n _ _. refl }, λ _. record { fourth = refl; ports = refl })
+quiet-doorbell : (kinds : List Kind) (cpu : Cpu) (interrupts : Controller) (ends : List End) (memory : List (List ℕ)) → length cpu.registers.gpr ≡ 32 → IsQuiet cpu interrupts ends memory (answering (doorbell_send kinds cpu.registers) cpu interrupts)
+unfolding doorbell_send
+quiet-doorbell kinds cpu interrupts ends memory all =
+    let handle = gpr_of cpu.registers 3 in
+    quiet-either (is_send (kind_at kinds handle)) (record granted { act = Rang handle }) (refusal status.InvalidArgument) cpu interrupts ends memory (quiet-done (record granted { act = Rang handle }) cpu interrupts ends memory all refl) (quiet-refusal status.InvalidArgument cpu interrupts ends memory)
+
+quiet-idle : (cpu : Cpu) (interrupts : Controller) (ends : List End) (memory : List (List ℕ)) → length cpu.registers.gpr ≡ 32 → IsQuiet cpu interrupts ends memory (answering granted (waiting cpu) interrupts)
+quiet-idle cpu interrupts ends memory all refused = absurd (refused (third granted.reply (waiting cpu) all))
+
+-- ---- the calls of the controller
+
+ruled-done : (it : Ruled) (cpu : Cpu) (interrupts : Controller) (ends : List End) (memory : List (List ℕ)) → length cpu.registers.gpr ≡ 32 → it.reply.status ≡ 0 → IsQuiet cpu interrupts ends memory (ruling it cpu)
+ruled-done it cpu interrupts ends memory all success refused = absurd (refused (third it.reply cpu all ∙ success))
+
+ruled-either : (test : Bool) (it : Ruled) (cpu : Cpu) (interrupts : Controller) (ends : List End) (memory : List (List ℕ)) → length cpu.registers.gpr ≡ 32 → it.reply.status ≡ 0
+    → IsQuiet cpu interrupts ends memory (ruling (cond test it (refused interrupts)) cpu)
+ruled-either true it cpu interrupts ends memory all success = ruled-done it cpu interrupts ends memory all success
+ruled-either false it cpu interrupts ends memory all success = quiet-refusal status.InvalidArgument cpu interrupts ends memory
+
+quiet-set_config : (cpu : Cpu) (interrupts : Controller) (ends : List End) (memory : List (List ℕ)) → length cpu.registers.gpr ≡ 32 → IsQuiet cpu interrupts ends memory (ruling (set_config cpu.registers interrupts) cpu)
+unfolding set_config
+quiet-set_config cpu interrupts ends memory all =
+    let n = gpr_of cpu.registers 3 in
+    let config = gpr_of cpu.registers 4 in
+    let priority = gpr_of cpu.registers 5 in
+    let dest = gpr_of cpu.registers 6 in
+    ruled-either (may_configure interrupts n config priority dest) (done [] (configured n config priority dest interrupts)) cpu interrupts ends memory all refl
+
+telling-config : (found : Option Source) (cpu : Cpu) (interrupts : Controller) (ends : List End) (memory : List (List ℕ)) → length cpu.registers.gpr ≡ 32 → IsQuiet cpu interrupts ends memory (ruling (telling_config found interrupts) cpu)
+telling-config None cpu interrupts ends memory all = quiet-refusal status.InvalidArgument cpu interrupts ends memory
+telling-config (Some source) cpu interrupts ends memory all = ruled-done (telling_config (Some source) interrupts) cpu interrupts ends memory all refl
+
+quiet-get_config : (cpu : Cpu) (interrupts : Controller) (ends : List End) (memory : List (List ℕ)) → length cpu.registers.gpr ≡ 32 → IsQuiet cpu interrupts ends memory (ruling (get_config cpu.registers interrupts) cpu)
+unfolding get_config
+quiet-get_config cpu interrupts ends memory all = telling-config (slice_get interrupts.sources (gpr_of cpu.registers 3)) cpu interrupts ends memory all
+
+quiet-set_mask : (cpu : Cpu) (interrupts : Controller) (ends : List End) (memory : List (List ℕ)) → length cpu.registers.gpr ≡ 32 → IsQuiet cpu interrupts ends memory (ruling (set_mask cpu.registers interrupts) cpu)
+unfolding set_mask
+quiet-set_mask cpu interrupts ends memory all =
+    let n = gpr_of cpu.registers 3 in
+    ruled-either (is_number interrupts n) (done [] (with_mask n (gpr_of cpu.registers 4) interrupts)) cpu interrupts ends memory all refl
+
+telling-mask : (found : Option Bool) (cpu : Cpu) (interrupts : Controller) (ends : List End) (memory : List (List ℕ)) → length cpu.registers.gpr ≡ 32 → IsQuiet cpu interrupts ends memory (ruling (telling_mask found interrupts) cpu)
+telling-mask None cpu interrupts ends memory all = quiet-refusal status.InvalidArgument cpu interrupts ends memory
+telling-mask (Some masked) cpu interrupts ends memory all = ruled-done (telling_mask (Some masked) interrupts) cpu interrupts ends memory all refl
+
+quiet-get_mask : (cpu : Cpu) (interrupts : Controller) (ends : List End) (memory : List (List ℕ)) → length cpu.registers.gpr ≡ 32 → IsQuiet cpu interrupts ends memory (ruling (get_mask cpu.registers interrupts) cpu)
+unfolding get_mask
+quiet-get_mask cpu interrupts ends memory all = telling-mask (mask_of interrupts (gpr_of cpu.registers 3)) cpu interrupts ends memory all
+
+quiet-acknowledge : (levels : ℕ) (cpu : Cpu) (interrupts : Controller) (ends : List End) (memory : List (List ℕ)) → length cpu.registers.gpr ≡ 32 → IsQuiet cpu interrupts ends memory (ruling (acknowledge levels interrupts) cpu)
+unfolding acknowledge
+quiet-acknowledge levels cpu interrupts ends memory all = ruled-done (acknowledge levels interrupts) cpu interrupts ends memory all refl
+
+quiet-end : (cpu : Cpu) (interrupts : Controller) (ends : List End) (memory : List (List ℕ)) → length cpu.registers.gpr ≡ 32 → IsQuiet cpu interrupts ends memory (ruling (end_of_interrupt cpu.registers interrupts) cpu)
+unfolding end_of_interrupt
+quiet-end cpu interrupts ends memory all =
+    let n = gpr_of cpu.registers 3 in ruled-either (is_in_service interrupts n) (done [] (ended n interrupts)) cpu interrupts ends memory all refl
+
+quiet-set_task : (cpu : Cpu) (interrupts : Controller) (ends : List End) (memory : List (List ℕ)) → length cpu.registers.gpr ≡ 32 → IsQuiet cpu interrupts ends memory (ruling (set_task_priority cpu.registers interrupts) cpu)
+unfolding set_task_priority
+quiet-set_task cpu interrupts ends memory all =
+    let priority = gpr_of cpu.registers 3 in
+    ruled-either (may_set_task priority) (done [] (with_task priority interrupts)) cpu interrupts ends memory all refl
+
+quiet-get_task : (cpu : Cpu) (interrupts : Controller) (ends : List End) (memory : List (List ℕ)) → length cpu.registers.gpr ≡ 32 → IsQuiet cpu interrupts ends memory (ruling (get_task_priority interrupts) cpu)
+unfolding get_task_priority
+quiet-get_task cpu interrupts ends memory all = ruled-done (get_task_priority interrupts) cpu interrupts ends memory all refl
+
+quiet-served : (ports : List Port) (service : Call) (cpu : Cpu) (interrupts : Controller) (ends : List End) (memory : List (List ℕ)) → length cpu.registers.gpr ≡ 32 → IsQuiet cpu interrupts ends memory (served ports service cpu interrupts ends)
+unfolding served ruled
+quiet-served ports call.Send cpu interrupts ends memory all = quiet-send (kinds_of ports) cpu interrupts ends memory all
+quiet-served ports call.Receive cpu interrupts ends memory all = quiet-receive (kinds_of ports) cpu interrupts ends memory all
+quiet-served ports call.Poll cpu interrupts ends memory all = quiet-poll (kinds_of ports) cpu interrupts ends memory all
+quiet-served ports call.DoorbellSend cpu interrupts ends memory all = quiet-doorbell (kinds_of ports) cpu interrupts ends memory all
+quiet-served ports call.Idle cpu interrupts ends memory all = quiet-idle cpu interrupts ends memory all
+quiet-served ports call.Unlisted cpu interrupts ends memory all = quiet-refusal status.Unimplemented cpu interrupts ends memory
+quiet-served ports call.SetConfig cpu interrupts ends memory all = quiet-set_config cpu interrupts ends memory all
+quiet-served ports call.GetConfig cpu interrupts ends memory all = quiet-get_config cpu interrupts ends memory all
+quiet-served ports call.SetMask cpu interrupts ends memory all = quiet-set_mask cpu interrupts ends memory all
+quiet-served ports call.GetMask cpu interrupts ends memory all = quiet-get_mask cpu interrupts ends memory all
+quiet-served ports call.Iack cpu interrupts ends memory all = quiet-acknowledge (levels ports ends) cpu interrupts ends memory all
+quiet-served ports call.Eoi cpu interrupts ends memory all = quiet-end cpu interrupts ends memory all
+quiet-served ports call.SetTaskPriority cpu interrupts ends memory all = quiet-set_task cpu interrupts ends memory all
+quiet-served ports call.GetTaskPriority cpu interrupts ends memory all = quiet-get_task cpu interrupts ends memory all
+quiet-served ports _ cpu interrupts ends memory all = λ _.
+    (record { bytes = refl; stored = refl; interrupts = refl; translations = refl; next_victim = refl; state = refl; others = refl; registers = λ n _ _. refl }, λ _. record { fourth = refl; ports = refl })
 
 pub quiet_refusals : RefusalsAreQuiet
-quiet_refusals shape cpu ends memory all next is_built =
-    let ready : Cpu = begun cpu in
-    let serves = instructs shape ready ends memory next.undisturbed next.awake ∙ hypercall shape ready ends memory next.call in
-    let registers : length ready.registers.gpr ≡ 32 = ap length (general cpu) ∙ all in
-    let quiet : IsQuiet ready ends memory (served shape.kinds (call_of (gpr_of ready.registers 11)) ready ends) = quiet-served shape.kinds (call_of (gpr_of ready.registers 11)) ready ends memory registers in
-    let whole = core_whole shape cpu ends memory (λ e. is_built (ap (λ (d : CoreStepped). d.act) (core_nothing shape cpu ends memory e))) in
-    subst (λ (s : CoreStepped). RefusesQuietly ready ends memory s) (sym (whole ∙ serves)) quiet
+quiet_refusals shape cpu interrupts ends memory all next is_built =
+    let line = is_line_up shape.ports interrupts ends in
+    let ready : Cpu = begun line cpu in
+    let service = call_of (gpr_of ready.registers 11) in
+    let serves = instructs shape line ready interrupts ends memory next.undisturbed next.awake ∙ hypercall shape ready interrupts ends memory next.call in
+    let registers : length ready.registers.gpr ≡ 32 = ap length (general line cpu) ∙ all in
+    let quiet : IsQuiet ready interrupts ends memory (served shape.ports service ready interrupts ends) = quiet-served shape.ports service ready interrupts ends memory registers in
+    let whole = core_whole shape cpu interrupts ends memory (λ e. is_built (ap (λ (d : CoreStepped). d.act) (core_nothing shape cpu interrupts ends memory e))) in
+    subst (λ (s : CoreStepped). RefusesQuietly ready interrupts ends memory s) (sym (whole ∙ serves)) quiet

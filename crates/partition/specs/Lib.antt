@@ -3,6 +3,7 @@ pub mod Regions
 pub mod Found
 pub mod Port
 pub mod Act
+pub mod Interrupts
 pub mod Machine
 pub mod Step
 pub mod Event

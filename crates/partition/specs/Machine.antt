@@ -7,10 +7,12 @@ use Rattle.guest_tlb.specs.Slots.{initial_slots}
 use Rattle.machine_desc.specs.declared.act.State.{State}
 use Rattle.machine_desc.specs.declared.act.State.TheVariants.{Running, Stopped}
 use Rattle.machine_desc.specs.declared.desc.Desc.{Desc}
+use Rattle.machine_desc.specs.declared.desc.Port.{Port}
+use Rattle.vpic.specs.Controller.{Controller, fresh as fresh_controller}
 use Rattle.fresh_load.specs.Fresh.{fresh_memory}
-use Rattle.partition.specs.declared.kind.Kind.{Kind}
 use Rattle.partition.specs.Regions.{Area, areas_of}
-use Rattle.partition.specs.Port.{End, kinds_of, fresh_end}
+use Rattle.partition.specs.Port.{End, fresh_end}
+use Rattle.partition.specs.Interrupts.{interrupt_count}
 
 pub record Cpu : Type 0 where
   -- with its reservation and its idle flag
@@ -24,6 +26,8 @@ pub record Cpu : Type 0 where
 pub record Inner : Type 0 where
   -- one long until partitions have several
   pub cores : List Cpu
+  -- what its interrupt controller keeps
+  pub interrupts : Controller
   pub state : State
   -- how many steps its cores have done together
   pub steps : ℕ
@@ -54,10 +58,10 @@ place_in cores number = position (λ (core : ℕ). core == number) cores
 
 pub record Shape : Type 0 where
   pub areas : List Area
-  pub kinds : List Kind
+  pub ports : List Port
 
 abbrev pub shape_of : Desc → Shape
-shape_of desc = record { areas = areas_of desc.regions; kinds = kinds_of desc.ports }
+shape_of desc = record { areas = areas_of desc.regions; ports = desc.ports }
 
 -- ---- the machine before its first step
 
@@ -69,9 +73,18 @@ booted entry tree_at number = record { registers = boot_registers entry tree_at 
 abbrev pub booted_all : Desc → ℕ → List Cpu
 booted_all desc entry = map (λ (number : ℕ). booted entry desc.tree_at number) (range_with_len 0 (length desc.cores))
 
+-- the controller as it begins: every source masked
+abbrev pub fresh_interrupts : Desc → Controller
+fresh_interrupts desc = fresh_controller (interrupt_count desc.ports)
+
 -- what a held partition waits for is its manager's start
 abbrev pub fresh_inner : Desc → Inner
-fresh_inner desc = record { cores = booted_all desc desc.entry; state = if desc.held then Stopped else Running; steps = 0 }
+fresh_inner desc = record {
+  cores = booted_all desc desc.entry;
+  interrupts = fresh_interrupts desc;
+  state = if desc.held then Stopped else Running;
+  steps = 0;
+}
 
 unfoldable pub fresh : Desc → Machine
 fresh desc = record { inner = fresh_inner desc; ports = map fresh_end desc.ports; memory = fresh_memory desc }

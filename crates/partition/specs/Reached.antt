@@ -1,7 +1,10 @@
 -- The machines that can be reached, and what holds of all of them.
-use Rattle.std.specs.Prelude.{ℕ, ◌<◌, List, [], ◌∷◌, length}
+use Rattle.std.specs.Prelude.{◌≡◌, ℕ, ◌<◌, true, List, [], ◌∷◌, length, Some}
 use Rattle.guest_tlb.specs.Kept.{AreApart, AreKept}
 use Rattle.machine_desc.specs.declared.desc.Desc.{Desc}
+use Rattle.vpic.specs.Numbers.{has}
+use Rattle.vpic.specs.Controller.{Controller}
+use Rattle.partition.specs.Interrupts.{interrupt_count, bell_at}
 use Rattle.partition.specs.Machine.{Machine, Cpu, core_at, fresh}
 use Rattle.partition.specs.Step.{step}
 use Rattle.partition.specs.Event.{Event, apply}
@@ -33,3 +36,12 @@ abbrev pub TranslationsStaySound : Type 0
 TranslationsStaySound =
     (desc : Desc) (moves : List Move) (core : ℕ) → core < length (after_moves desc moves (fresh desc)).inner.cores
     → AreSound (core_at (after_moves desc moves (fresh desc)).inner.cores core)
+
+-- In every such machine the controller has a source for each interrupt of the description, and only numbers of receive handles are
+-- latched.
+pub record AreInterruptsSound (desc : Desc) (interrupts : Controller) : Type 0 where
+  pub count : length interrupts.sources ≡ interrupt_count desc.ports
+  pub latched : (n : ℕ) → has interrupts.latched n ≡ true → (handle : ℕ) × (bell_at desc.ports handle ≡ Some n)
+
+abbrev pub InterruptsStaySound : Type 0
+InterruptsStaySound = (desc : Desc) (moves : List Move) → AreInterruptsSound desc (after_moves desc moves (fresh desc)).inner.interrupts

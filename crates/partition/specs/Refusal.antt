@@ -2,8 +2,10 @@
 use Rattle.std.specs.Prelude.{◌≡◌, ◌≢◌, ℕ, List, [], length}
 use Rattle.guest_regs.specs.Registers.{Registers, gpr_of}
 use Rattle.machine_desc.specs.declared.act.State.TheVariants.{Running}
+use Rattle.vpic.specs.Controller.{Controller}
 use Rattle.partition.specs.Port.{End}
 use Rattle.partition.specs.Act.{NotBuilt, ports_after, state_after}
+use Rattle.partition.specs.Interrupts.{is_line_up}
 use Rattle.partition.specs.Machine.{Cpu, Shape}
 use Rattle.partition.specs.Calling.{CallsNext}
 use Rattle.partition.specs.Step.{CoreStepped, begun, core_step}
@@ -12,10 +14,12 @@ use Rattle.partition.specs.Step.{CoreStepped, begun, core_step}
 abbrev pub other_registers : Registers → Registers
 other_registers registers = record registers { gpr = []; pc = 0 }
 
--- the memory, the translations, the other registers, and each general register but r3 and r4 stay, and the partition runs on
-pub record KeepsMost (cpu : Cpu) (memory : List (List ℕ)) (done : CoreStepped) : Type 0 where
+-- the memory, the controller, the translations, the other registers, and each general register but r3 and r4 stay, and the partition
+-- runs on
+pub record KeepsMost (cpu : Cpu) (controller : Controller) (memory : List (List ℕ)) (done : CoreStepped) : Type 0 where
   pub bytes : done.memory ≡ memory
   pub stored : done.stored ≡ []
+  pub interrupts : done.interrupts ≡ controller
   pub translations : done.cpu.translations ≡ cpu.translations
   pub next_victim : done.cpu.next_victim ≡ cpu.next_victim
   pub state : state_after done.act ≡ Running
@@ -29,12 +33,14 @@ pub record KeepsRest (cpu : Cpu) (ends : List End) (done : CoreStepped) : Type 0
 
 -- Where the status in r3 is not success, r3 alone has changed, besides the PC; where it says that the caller may try again, r4 and
 -- what is outstanding have changed too.
-abbrev pub RefusesQuietly : Cpu → List End → List (List ℕ) → CoreStepped → Type 0
-RefusesQuietly cpu ends memory done =
-    gpr_of done.cpu.registers 3 ≢ 0 → KeepsMost cpu memory done × (gpr_of done.cpu.registers 3 ≢ 4 → KeepsRest cpu ends done)
+abbrev pub RefusesQuietly : Cpu → Controller → List End → List (List ℕ) → CoreStepped → Type 0
+RefusesQuietly cpu interrupts ends memory done =
+    gpr_of done.cpu.registers 3 ≢ 0 → KeepsMost cpu interrupts memory done × (gpr_of done.cpu.registers 3 ≢ 4 → KeepsRest cpu ends done)
 
 -- So it is of each core that calls the hypervisor next, for a service that is built, whose step has begun: its time has passed.
 abbrev pub RefusalsAreQuiet : Type 0
 RefusalsAreQuiet =
-    (shape : Shape) (cpu : Cpu) (ends : List End) (memory : List (List ℕ)) → length cpu.registers.gpr ≡ 32 → CallsNext shape cpu memory
-    → (core_step shape cpu ends memory).act ≢ NotBuilt → RefusesQuietly (begun cpu) ends memory (core_step shape cpu ends memory)
+    (shape : Shape) (cpu : Cpu) (interrupts : Controller) (ends : List End) (memory : List (List ℕ)) → length cpu.registers.gpr ≡ 32
+    → CallsNext shape (is_line_up shape.ports interrupts ends) cpu memory
+    → (core_step shape cpu interrupts ends memory).act ≢ NotBuilt
+    → RefusesQuietly (begun (is_line_up shape.ports interrupts ends) cpu) interrupts ends memory (core_step shape cpu interrupts ends memory)

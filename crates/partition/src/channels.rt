@@ -1,12 +1,12 @@
 //! The hypercalls of byte channels (ePAPR 1.1, chapter 7, byte channels), from registers and ports to a reply and an act.
 
-ghost use Rattle.std.specs.Prelude.{◌≡◌, ◌≢◌, ℕ, ◌+◌, ◌≤◌, List, [], Some, false, length, take, if◌then◌else◌};
+ghost use Rattle.std.specs.Prelude.{◌≡◌, ℕ, ◌+◌, ◌≤◌, List, [], Some, false, length, take, if◌then◌else◌};
 ghost use Rattle.guest_regs.specs.Registers.{gpr_of};
 ghost use Rattle.hcall_abi.specs.Reply.{reply_of};
 ghost use Rattle.partition.specs.Port.{kinds_of, kind_at, end_at};
-ghost use Rattle.partition.specs.Act.{act_of, ports_after};
+ghost use Rattle.partition.specs.Act.{act_of};
 ghost use Rattle.partition.specs.Channels as spec;
-ghost use Rattle.partition.specs.Lending.{Did, HasBytes, HasHandle};
+ghost use Rattle.partition.specs.Lending.{IsLent};
 
 use crate::handles::is_channel;
 use crate::kind::Kind;
@@ -44,12 +44,7 @@ fn is_bad_transfer(handles: &[Port], regs: &Regs) -> bool
 pub fn send<P: Ports>(handles: &[Port], regs: &Regs, ports: &mut P) -> Served
     requires kinds { P.kinds ports.old ≡ kinds_of handles.now }
     ensures served { spec.send (kinds_of handles.now) regs.now (P.seen ports.old) ≡ record { reply = reply_of result.reply; act = act_of result.act } }
-    ensures built { result.act ≢ Act.NotBuilt }
-    ensures bytes { HasBytes result.act }
-    ensures handle { HasHandle (kinds_of handles.now) result.act }
-    ensures seen { P.seen ports.new ≡ ports_after (act_of result.act) (P.seen ports.old) }
-    ensures same { P.kinds ports.new ≡ P.kinds ports.old }
-    ensures did { Did P.sends P.takes result.act ports.old ports.new }
+    ensures lent { IsLent P.kinds P.seen P.sends P.takes result.act ports.old ports.new }
 {
     if is_bad_transfer(handles, regs) {
         return refusal(Status::InvalidArgument);
@@ -70,12 +65,7 @@ fn sending<P: Ports>(status: Status, handle: u32, count: u16, regs: &Regs, ports
     requires channel { kind_at (P.kinds ports.old) handle ≡ Some Kind.Channel }
     requires room { (end_at (P.seen ports.old) handle).outstanding + count ≤ 256 }
     ensures served { spec.sending status handle count regs.now ≡ record { reply = reply_of result.reply; act = act_of result.act } }
-    ensures built { result.act ≢ Act.NotBuilt }
-    ensures bytes { HasBytes result.act }
-    ensures handle { HasHandle (P.kinds ports.old) result.act }
-    ensures seen { P.seen ports.new ≡ ports_after (act_of result.act) (P.seen ports.old) }
-    ensures same { P.kinds ports.new ≡ P.kinds ports.old }
-    ensures did { Did P.sends P.takes result.act ports.old ports.new }
+    ensures lent { IsLent P.kinds P.seen P.sends P.takes result.act ports.old ports.new }
 {
     let reply = Reply::with(status, &[u32::from(count)]);
     let bytes = sent_bytes(regs, count as usize);
@@ -113,12 +103,7 @@ fn taken(waiting: u16, count: u32) -> u16
 pub fn receive<P: Ports>(handles: &[Port], regs: &Regs, ports: &mut P) -> Served
     requires kinds { P.kinds ports.old ≡ kinds_of handles.now }
     ensures served { spec.receive (kinds_of handles.now) regs.now (P.seen ports.old) ≡ record { reply = reply_of result.reply; act = act_of result.act } }
-    ensures built { result.act ≢ Act.NotBuilt }
-    ensures bytes { HasBytes result.act }
-    ensures handle { HasHandle (kinds_of handles.now) result.act }
-    ensures seen { P.seen ports.new ≡ ports_after (act_of result.act) (P.seen ports.old) }
-    ensures same { P.kinds ports.new ≡ P.kinds ports.old }
-    ensures did { Did P.sends P.takes result.act ports.old ports.new }
+    ensures lent { IsLent P.kinds P.seen P.sends P.takes result.act ports.old ports.new }
 {
     if is_bad_transfer(handles, regs) {
         return refusal(Status::InvalidArgument);
@@ -134,12 +119,7 @@ fn receiving<P: Ports>(handle: u32, count: u16, ports: &mut P) -> Served
     requires channel { kind_at (P.kinds ports.old) handle ≡ Some Kind.Channel }
     requires there { count ≤ length (end_at (P.seen ports.old) handle).received }
     ensures served { spec.receiving handle (take count (end_at (P.seen ports.old) handle).received) ≡ record { reply = reply_of result.reply; act = act_of result.act } }
-    ensures built { result.act ≢ Act.NotBuilt }
-    ensures bytes { HasBytes result.act }
-    ensures handle { HasHandle (P.kinds ports.old) result.act }
-    ensures seen { P.seen ports.new ≡ ports_after (act_of result.act) (P.seen ports.old) }
-    ensures same { P.kinds ports.new ≡ P.kinds ports.old }
-    ensures did { Did P.sends P.takes result.act ports.old ports.new }
+    ensures lent { IsLent P.kinds P.seen P.sends P.takes result.act ports.old ports.new }
 {
     if count == 0 {
         return Served {

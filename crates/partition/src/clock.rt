@@ -1,11 +1,13 @@
 //! The beginning of a step, and taking it back.
 
-ghost use Rattle.std.specs.Prelude.{◌≡◌};
+ghost use Rattle.std.specs.Prelude.{◌≡◌, IsTrue};
+ghost use Rattle.guest_regs.specs.Registers.{Registers};
 ghost use Rattle.trap_emulate.specs.Clock.{ticked};
-ghost use Rattle.partition.specs.Step.{woken};
+ghost use Rattle.trap_emulate.specs.Entry.{may_enter};
+ghost use Rattle.partition.specs.Step as spec;
 
 use guest_regs::Regs;
-use trap_emulate::{is_decrementer_pending, tick};
+use trap_emulate::{Cause, is_decrementer_pending, tick};
 
 /// What the beginning of a step changes.
 #[derive(Clone, Copy)]
@@ -40,12 +42,31 @@ impl Clocks {
     }
 }
 
+/// Whether an interrupt is pending: the external one, whose line this is, or the decrementer's.
+pub fn is_pending(line: bool, regs: &Regs) -> bool
+    ensures { result ≡ spec.is_pending line regs.now }
+{
+    line || is_decrementer_pending(regs)
+}
+
+/// Which interrupt is pending, where one is: the external one comes first.
+pub fn pending(line: bool) -> Cause
+    ensures value { result ≡ spec.pending line }
+    ensures entered { (registers : Registers) → IsTrue (may_enter result registers) }
+{
+    if line {
+        Cause::External
+    } else {
+        Cause::Decrementer
+    }
+}
+
 /// Lets a step's time pass, and wakes a core for which an interrupt is pending.
-pub fn begin(regs: &mut Regs)
-    ensures { regs.new ≡ woken (ticked regs.old) }
+pub fn begin(line: bool, regs: &mut Regs)
+    ensures { regs.new ≡ spec.woken line (ticked regs.old) }
 {
     tick(regs);
-    if is_decrementer_pending(regs) {
+    if is_pending(line, regs) {
         regs.set_idle(false);
     }
 }

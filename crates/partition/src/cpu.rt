@@ -7,22 +7,28 @@ ghost use Rattle.core_step.specs.Access.{SameSizes};
 ghost use Rattle.core_step.specs.Step as core;
 ghost use Rattle.trap_emulate.specs.Entry.{may_enter};
 ghost use Rattle.machine_desc.specs.Sound.{IsSound};
+ghost use Rattle.vpic.specs.Controller.{Controller};
 ghost use Rattle.fresh_load.specs.Placed.{ArePlaced, extents_of};
 ghost use Rattle.hcall_abi.specs.Call.{call_of};
 ghost use Rattle.hcall_abi.specs.Reply.{reply_of};
 ghost use Rattle.partition.specs.Regions.{areas_of};
 ghost use Rattle.partition.specs.Found.{lookup_in};
-ghost use Rattle.partition.specs.Port.{kinds_of, kind_at, end_at};
+ghost use Rattle.partition.specs.Port.{kinds_of};
 ghost use Rattle.partition.specs.Act as spec_act;
-ghost use Rattle.partition.specs.Act.{act_of, ports_after};
+ghost use Rattle.partition.specs.Act.{act_of};
+ghost use Rattle.partition.specs.Interrupts.{granted, levels};
 ghost use Rattle.partition.specs.Machine.{booted, shape_of};
 ghost use Rattle.partition.specs.Step as spec;
-ghost use Rattle.partition.specs.Lending.{Did, HasBytes, HasHandle, IsCoreStepped, KeepsUnbuilt};
+ghost use Rattle.partition.specs.Lending.{IsCoreStepped, IsLent, KeepsUnbuilt};
 
 use crate::acts::{Acts, shared_ranges};
 use crate::channels::{poll, receive, refusal, send};
-use crate::clock::{Clocks, begin};
+use crate::clock::{Clocks, begin, is_pending, pending};
 use crate::found::{Found, View, find};
+use crate::interrupts::{
+    acknowledge, doorbell_send, end_of_interrupt, get_config, get_mask, get_task_priority,
+    is_line_up, levels, set_config, set_mask, set_task_priority,
+};
 use crate::ports::Ports;
 use crate::served::Served;
 use arrayvec::ArrayVec;
@@ -30,15 +36,14 @@ use core_step::{Core, Hw};
 use ground::Ground;
 use guest_regs::{boot, order_syndrome, store_syndrome};
 use guest_tlb::GuestTlb;
-use hcall_abi::{Call, Status, set_reply};
+use hcall_abi::{Call, Reply, Status, set_reply};
 use insn::Insn;
 use machine_desc::{Act, Desc};
 use outside::NoMemory;
 use std::alloc::Global;
 use std::marker::Model;
-use trap_emulate::{
-    Cause, Mmu, are_interrupts_enabled, deliver, emulate, is_decrementer_pending, may_enter,
-};
+use trap_emulate::{Cause, Mmu, are_interrupts_enabled, deliver, emulate, may_enter};
+use vpic::Vpic;
 
 /// A core with its translations. Contracts see the record `Cpu` of the machine's definition.
 #[derive(Drop)]
@@ -85,26 +90,30 @@ impl Cpu {
     /// Does one step: its time passes, and it enters an interrupt, waits, or does an instruction. Where that isn't built,
     /// all is as before.
     #[tactic(auto)]
-    pub fn step<P: Ports>(&mut self, desc: &Desc, ground: &mut Ground, ports: &mut P) -> Acts
+    pub fn step<P: Ports>(
+        &mut self,
+        desc: &Desc,
+        vpic: &mut Vpic,
+        ground: &mut Ground,
+        ports: &mut P,
+    ) -> Acts
         requires sound { IsSound desc.now }
         requires placed { ArePlaced ground.old desc.now.regions }
         requires kinds { P.kinds ports.old ≡ kinds_of desc.now.ports }
         ensures stepped { IsCoreStepped (extents_of desc.now.regions)
-            (spec.core_step (shape_of desc.now) self.old (P.seen ports.old) (own_of (extents_of desc.now.regions) ground.old))
-            self.new ground.new result.act result.shared.items }
+            (spec.core_step (shape_of desc.now) self.old vpic.old (P.seen ports.old) (own_of (extents_of desc.now.regions) ground.old))
+            self.new vpic.new ground.new result.act result.shared.items }
         ensures kept { KeepsUnbuilt result.act self.old self.new }
+        ensures interrupts { KeepsUnbuilt result.act vpic.old vpic.new }
         ensures memory { KeepsUnbuilt result.act ground.old ground.new }
         ensures others { KeepsForeign (extents_of desc.now.regions) ground.old ground.new }
         ensures sizes { SameSizes ground.old ground.new }
-        ensures bytes { HasBytes result.act }
-        ensures handle { HasHandle (kinds_of desc.now.ports) result.act }
-        ensures seen { P.seen ports.new ≡ ports_after (act_of result.act) (P.seen ports.old) }
-        ensures same { P.kinds ports.new ≡ P.kinds ports.old }
-        ensures did { Did P.sends P.takes result.act ports.old ports.new }
+        ensures lent { IsLent P.kinds P.seen P.sends P.takes result.act ports.old ports.new }
     {
+        let line = is_line_up(desc, vpic, ports);
         let clocks = self.clocks();
-        self.begin();
-        let acts = self.act(desc, ground, ports);
+        self.begin(line);
+        let acts = self.act(line, desc, vpic, ground, ports);
         match acts.act {
             Act::NotBuilt => {
                 self.take_back(clocks);
@@ -132,63 +141,66 @@ impl Cpu {
 
     /// Lets the step's time pass.
     #[tactic(auto, unfolding(crate::specs::Step::begun))]
-    fn begin(&mut self)
-        ensures { self.new ≡ spec.begun self.old }
+    fn begin(&mut self, line: bool)
+        ensures { self.new ≡ spec.begun line self.old }
     {
-        begin(self.core.regs_mut());
+        begin(line, self.core.regs_mut());
     }
 
     /// Does what the step is for, after its time has passed.
     #[tactic(auto, unfolding(crate::specs::Step::acted))]
-    fn act<P: Ports>(&mut self, desc: &Desc, ground: &mut Ground, ports: &mut P) -> Acts
+    fn act<P: Ports>(
+        &mut self,
+        line: bool,
+        desc: &Desc,
+        vpic: &mut Vpic,
+        ground: &mut Ground,
+        ports: &mut P,
+    ) -> Acts
         requires sound { IsSound desc.now }
         requires placed { ArePlaced ground.old desc.now.regions }
         requires kinds { P.kinds ports.old ≡ kinds_of desc.now.ports }
         ensures acted { IsCoreStepped (extents_of desc.now.regions)
-            (spec.acted (shape_of desc.now) self.old (P.seen ports.old) (own_of (extents_of desc.now.regions) ground.old))
-            self.new ground.new result.act result.shared.items }
-        ensures kept { KeepsUnbuilt result.act self.old self.new }
+            (spec.acted (shape_of desc.now) line self.old vpic.old (P.seen ports.old) (own_of (extents_of desc.now.regions) ground.old))
+            self.new vpic.new ground.new result.act result.shared.items }
         ensures memory { KeepsUnbuilt result.act ground.old ground.new }
         ensures others { KeepsForeign (extents_of desc.now.regions) ground.old ground.new }
         ensures sizes { SameSizes ground.old ground.new }
-        ensures bytes { HasBytes result.act }
-        ensures handle { HasHandle (kinds_of desc.now.ports) result.act }
-        ensures seen { P.seen ports.new ≡ ports_after (act_of result.act) (P.seen ports.old) }
-        ensures same { P.kinds ports.new ≡ P.kinds ports.old }
-        ensures did { Did P.sends P.takes result.act ports.old ports.new }
+        ensures lent { IsLent P.kinds P.seen P.sends P.takes result.act ports.old ports.new }
     {
         let regs = self.core.regs();
-        if is_decrementer_pending(regs) && are_interrupts_enabled(regs) {
-            self.enter(Cause::Decrementer);
+        if is_pending(line, regs) && are_interrupts_enabled(regs) {
+            self.enter(pending(line));
             return only(Act::None);
         }
         if regs.idle() {
             return only(Act::None);
         }
-        self.instruct(desc, ground, ports)
+        self.instruct(desc, vpic, ground, ports)
     }
 
     /// Does an instruction, and what comes of it.
-    fn instruct<P: Ports>(&mut self, desc: &Desc, ground: &mut Ground, ports: &mut P) -> Acts
+    fn instruct<P: Ports>(
+        &mut self,
+        desc: &Desc,
+        vpic: &mut Vpic,
+        ground: &mut Ground,
+        ports: &mut P,
+    ) -> Acts
         requires sound { IsSound desc.now }
         requires placed { ArePlaced ground.old desc.now.regions }
         requires kinds { P.kinds ports.old ≡ kinds_of desc.now.ports }
         ensures done { IsCoreStepped (extents_of desc.now.regions)
-            (spec.instruction (shape_of desc.now) self.old (P.seen ports.old) (own_of (extents_of desc.now.regions) ground.old))
-            self.new ground.new result.act result.shared.items }
-        ensures kept { KeepsUnbuilt result.act self.old self.new }
+            (spec.instruction (shape_of desc.now) self.old vpic.old (P.seen ports.old) (own_of (extents_of desc.now.regions) ground.old))
+            self.new vpic.new ground.new result.act result.shared.items }
         ensures memory { KeepsUnbuilt result.act ground.old ground.new }
         ensures others { KeepsForeign (extents_of desc.now.regions) ground.old ground.new }
         ensures sizes { SameSizes ground.old ground.new }
-        ensures bytes { HasBytes result.act }
-        ensures handle { HasHandle (kinds_of desc.now.ports) result.act }
-        ensures seen { P.seen ports.new ≡ ports_after (act_of result.act) (P.seen ports.old) }
-        ensures same { P.kinds ports.new ≡ P.kinds ports.old }
-        ensures did { Did P.sends P.takes result.act ports.old ports.new }
+        ensures lent { IsLent P.kinds P.seen P.sends P.takes result.act ports.old ports.new }
     {
         let answer = self.execute(desc, ground);
         let shared = shared_ranges(desc.regions.as_slice(), &answer);
-        let act = self.handle(desc, answer, ports);
+        let act = self.handle(desc, answer, vpic, ports);
         Acts { act, shared }
     }
 
@@ -214,20 +226,17 @@ impl Cpu {
 
     /// Does what the instruction's answer asks for.
     #[tactic(auto, unfolding(crate::specs::Step::handled))]
-    fn handle<P: Ports>(&mut self, desc: &Desc, answer: Hw, ports: &mut P) -> Act
+    fn handle<P: Ports>(&mut self, desc: &Desc, answer: Hw, vpic: &mut Vpic, ports: &mut P) -> Act
+        requires sound { IsSound desc.now }
         requires kinds { P.kinds ports.old ≡ kinds_of desc.now.ports }
-        ensures handled { spec.handled (shape_of desc.now) (core.answered answer) self.old (P.seen ports.old) ≡ record { cpu = self.new; act = act_of result } }
-        ensures kept { KeepsUnbuilt result self.old self.new }
-        ensures bytes { HasBytes result }
-        ensures handle { HasHandle (kinds_of desc.now.ports) result }
-        ensures seen { P.seen ports.new ≡ ports_after (act_of result) (P.seen ports.old) }
-        ensures same { P.kinds ports.new ≡ P.kinds ports.old }
-        ensures did { Did P.sends P.takes result ports.old ports.new }
+        ensures handled { spec.handled (shape_of desc.now) (core.answered answer) self.old vpic.old (P.seen ports.old)
+            ≡ record { cpu = self.new; interrupts = vpic.new; act = act_of result } }
+        ensures lent { IsLent P.kinds P.seen P.sends P.takes result ports.old ports.new }
     {
         match answer {
             Hw::Retired(_) | Hw::Waiting => Act::None,
             Hw::Sc => self.enter(Cause::Syscall),
-            Hw::Hcall => self.serve(desc, ports),
+            Hw::Hcall => self.serve(desc, vpic, ports),
             Hw::Priv(insn) => self.do_privileged(insn),
             Hw::MissData { ea, store } => {
                 let space = self.core.regs().data_space();
@@ -274,7 +283,8 @@ impl Cpu {
     /// Takes a machine check, and says whether the partition runs on.
     #[tactic(auto, unfolding(crate::specs::Step::checked))]
     fn check(&mut self) -> bool
-        ensures { spec.checked self.old ≡ record { cpu = self.new; act = if result then spec_act.Nothing else spec_act.Faulted } }
+        ensures { (interrupts : Controller) → spec.checked self.old interrupts
+            ≡ record { cpu = self.new; interrupts = interrupts; act = if result then spec_act.Nothing else spec_act.Faulted } }
     {
         if may_enter(self.core.regs(), Cause::MachineCheck) {
             self.enter(Cause::MachineCheck);
@@ -286,8 +296,8 @@ impl Cpu {
     /// Deals with an access that found no memory; the cause is its TLB error. Says whether the partition runs on.
     fn miss(&mut self, desc: &Desc, cause: Cause, space: bool, ea: u32) -> bool
         requires entered { IsTrue (may_enter cause self.old.registers) }
-        ensures { spec.missed cause (spec.found_for (areas_of desc.now.regions) self.old space ea) self.old
-            ≡ record { cpu = self.new; act = if result then spec_act.Nothing else spec_act.Faulted } }
+        ensures { (interrupts : Controller) → spec.missed cause (spec.found_for (areas_of desc.now.regions) self.old space ea) self.old interrupts
+            ≡ record { cpu = self.new; interrupts = interrupts; act = if result then spec_act.Nothing else spec_act.Faulted } }
     {
         let pid = self.core.regs().pid();
         match find(&self.mmu.tlb, desc.regions.as_slice(), space, pid, ea) {
@@ -310,17 +320,13 @@ impl Cpu {
     }
 
     /// Does the hypercall that r11 asks for.
-    #[tactic(auto, using(crate::proofs::Steps::keeps_built), unfolding(crate::specs::Step::served))]
-    fn serve<P: Ports>(&mut self, desc: &Desc, ports: &mut P) -> Act
+    #[tactic(auto, using(crate::proofs::Lent::bell_lent), unfolding(crate::specs::Step::served))]
+    fn serve<P: Ports>(&mut self, desc: &Desc, vpic: &mut Vpic, ports: &mut P) -> Act
+        requires sound { IsSound desc.now }
         requires kinds { P.kinds ports.old ≡ kinds_of desc.now.ports }
         ensures served { let asked = call_of (gpr_of self.old.registers 11) in
-            spec.served (kinds_of desc.now.ports) asked self.old (P.seen ports.old) ≡ record { cpu = self.new; act = act_of result } }
-        ensures kept { KeepsUnbuilt result self.old self.new }
-        ensures bytes { HasBytes result }
-        ensures handle { HasHandle (kinds_of desc.now.ports) result }
-        ensures seen { P.seen ports.new ≡ ports_after (act_of result) (P.seen ports.old) }
-        ensures same { P.kinds ports.new ≡ P.kinds ports.old }
-        ensures did { Did P.sends P.takes result ports.old ports.new }
+            spec.served desc.now.ports asked self.old vpic.old (P.seen ports.old) ≡ record { cpu = self.new; interrupts = vpic.new; act = act_of result } }
+        ensures lent { IsLent P.kinds P.seen P.sends P.takes result ports.old ports.new }
     {
         let handles = desc.ports.as_slice();
         match Call::of(self.core.regs()) {
@@ -336,9 +342,53 @@ impl Cpu {
                 let served = poll(handles, self.core.regs(), ports);
                 self.answer(served)
             }
+            Call::DoorbellSend => {
+                let served = doorbell_send(handles, self.core.regs());
+                self.answer(served)
+            }
+            Call::Idle => self.wait(),
             Call::Unlisted => self.answer(refusal(Status::Unimplemented)),
-            _ => Act::NotBuilt,
+            call => self.rule(call, desc, vpic, ports),
         }
+    }
+
+    /// Does a call of the interrupt controller. Other services aren't built yet.
+    #[tactic(auto, unfolding(crate::specs::Step::ruled))]
+    fn rule<P: Ports>(&mut self, call: Call, desc: &Desc, vpic: &mut Vpic, ports: &P) -> Act
+        requires sound { IsSound desc.now }
+        requires kinds { P.kinds ports.now ≡ kinds_of desc.now.ports }
+        ensures ruled { spec.ruled call (levels desc.now.ports (P.seen ports.now)) self.old vpic.old
+            ≡ record { cpu = self.new; interrupts = vpic.new; act = act_of result } }
+        ensures lent { IsLent P.kinds P.seen P.sends P.takes result ports.now ports.now }
+    {
+        let regs = self.core.regs();
+        let reply = match call {
+            Call::SetConfig => set_config(vpic, regs),
+            Call::GetConfig => get_config(vpic, regs),
+            Call::SetMask => set_mask(vpic, regs),
+            Call::GetMask => get_mask(vpic, regs),
+            Call::Iack => acknowledge(vpic, levels(desc, ports)),
+            Call::Eoi => end_of_interrupt(vpic, regs),
+            Call::SetTaskPriority => set_task_priority(vpic, regs),
+            Call::GetTaskPriority => get_task_priority(vpic),
+            _ => return Act::NotBuilt,
+        };
+        self.answer(Served {
+            reply,
+            act: Act::None,
+        })
+    }
+
+    /// Lets the core wait for an interrupt.
+    fn wait(&mut self) -> Act
+        ensures waiting { self.new ≡ spec.answered (granted).reply (spec.waiting self.old) }
+        ensures quiet { result ≡ Act.None }
+    {
+        self.core.regs_mut().set_idle(true);
+        self.answer(Served {
+            reply: Reply::new(Status::Success),
+            act: Act::None,
+        })
     }
 
     /// Gives the caller its reply, and lets it go on after its `sc`.

@@ -8,7 +8,8 @@ ghost use Rattle.partition.specs.Port.{kinds_of};
 ghost use Rattle.partition.specs.Loading as spec;
 ghost use Rattle.partition.specs.Lending.{HasHandle, IsOutstanding};
 
-use crate::{Acts, LoneMachine};
+use crate::handles::kind_at;
+use crate::{Acts, Kind, LoneMachine};
 use core_step::Wrote;
 use guest_regs::Regs;
 use machine_desc::{Act, Desc, Piece, Port, Region, State, sound};
@@ -23,7 +24,8 @@ const LIMIT: u64 = 1_000_000_000_000;
 const MOST_BYTES: u64 = 0x4000_0000;
 
 /// A machine of one core in short: its regions, the bytes of each extent, the words of its image, which lies at 0, the
-/// place of its tree, its entry, and whether it begins held. Its one handle is a channel.
+/// place of its tree, its entry, and whether it begins held. Handle 1 is a channel with the interrupts 0 and 1, handle 2
+/// a doorbell that it rings, and handle 3 one that rings it by interrupt 2.
 #[derive(Clone, Copy)]
 pub struct Draft<'a> {
     pub regions: &'a [Place],
@@ -84,6 +86,8 @@ fn desc_of(alloc: Global, draft: &Draft) -> Result<Desc, NoMemory> {
     pieces.push(piece_of(alloc, draft.image)?)?;
     let mut ports = Listed::new(alloc);
     ports.push(Port::Channel { rx: 0, tx: 1 })?;
+    ports.push(Port::Send)?;
+    ports.push(Port::Receive { irq: 2 })?;
     Ok(Desc {
         name: Bytes::of(alloc, b"guest")?,
         regions: regions_of(alloc, draft.regions)?,
@@ -161,6 +165,28 @@ pub fn try_step(machine: &mut LoneMachine) -> Option<Acts>
         Some(machine.step(core))
     } else {
         None
+    }
+}
+
+/// Rings the doorbell of handle 3, where it is one.
+pub fn try_ring(machine: &mut LoneMachine) -> Option<()> {
+    match kind_at(machine.desc().ports.as_slice(), 3) {
+        Some(Kind::Receive) => {
+            machine.ring(3);
+            Some(())
+        }
+        _ => None,
+    }
+}
+
+/// Lets bytes come on handle 1, where it is a channel that has room for them.
+pub fn try_give(machine: &mut LoneMachine, bytes: &[u8]) -> Option<()> {
+    match kind_at(machine.desc().ports.as_slice(), 1) {
+        Some(Kind::Channel) if machine.waiting(1) as usize + bytes.len() <= 256 => {
+            machine.give(1, bytes);
+            Some(())
+        }
+        _ => None,
     }
 }
 

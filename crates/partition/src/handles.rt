@@ -3,6 +3,7 @@
 ghost use Rattle.std.specs.Prelude.{◌≡◌, true, Some};
 ghost use Rattle.partition.specs.Port as spec;
 ghost use Rattle.partition.specs.Channels.{is_channel as is_channel_kind};
+ghost use Rattle.partition.specs.Interrupts.{is_send as is_send_kind};
 
 use crate::kind::Kind;
 use machine_desc::Port;
@@ -37,6 +38,17 @@ pub fn is_channel(ports: &[Port], handle: u32) -> bool
 {
     match kind_at(ports, handle) {
         Some(Kind::Channel) => true,
+        _ => false,
+    }
+}
+
+/// Whether a handle is a doorbell that the partition rings.
+pub fn is_send(ports: &[Port], handle: u32) -> bool
+    ensures value { result ≡ is_send_kind (spec.kind_at (spec.kinds_of ports.now) handle) }
+    ensures send { result ≡ true → spec.kind_at (spec.kinds_of ports.now) handle ≡ Some Kind.Send }
+{
+    match kind_at(ports, handle) {
+        Some(Kind::Send) => true,
         _ => false,
     }
 }

@@ -537,3 +537,111 @@ pub const EDGE: [u32; 16] = [
     0xBFC0_1FFC, // stmw r30,8188(0)
     0xBB80_1FF8, // lmw r28,8184(0)
 ];
+
+/// Unmasks interrupt 2, and asks which interrupt there is.
+pub const BELL: [u32; 10] = [
+    0x3D60_0001, // lis r11,1
+    0x616B_0006, // ori r11,r11,6
+    0x3860_0002, // li r3,2
+    0x3880_0000, // li r4,0
+    0x4400_0022, // sc 1
+    0x3D60_0001, // lis r11,1
+    0x616B_0009, // ori r11,r11,9
+    0x4400_0022, // sc 1
+    0x7C85_2378, // mr r5,r4
+    0x4800_0000, // b 36
+];
+
+/// Unmasks interrupt 2, and waits for it with MSR[EE] clear.
+pub const WAITS: [u32; 10] = [
+    0x3D60_0001, // lis r11,1
+    0x616B_0006, // ori r11,r11,6
+    0x3860_0002, // li r3,2
+    0x3880_0000, // li r4,0
+    0x4400_0022, // sc 1
+    0x3D60_0001, // lis r11,1
+    0x616B_0010, // ori r11,r11,16
+    0x4400_0022, // sc 1
+    0x7F0C_42A6, // mftb r24
+    0x4800_0000, // b 36
+];
+
+/// Unmasks interrupt 2, and waits for it with MSR[EE] set; its handler is at 64.
+pub const WOKEN: [u32; 21] = [
+    0x3860_0040, // li r3,64
+    0x7C74_63A6, // mtivor4 r3
+    0x7C00_8146, // wrteei 1
+    0x3D60_0001, // lis r11,1
+    0x616B_0006, // ori r11,r11,6
+    0x3860_0002, // li r3,2
+    0x3880_0000, // li r4,0
+    0x4400_0022, // sc 1
+    0x3D60_0001, // lis r11,1
+    0x616B_0010, // ori r11,r11,16
+    0x4400_0022, // sc 1
+    0x3B20_0001, // li r25,1
+    0x6000_0000, // nop
+    0x6000_0000, // nop
+    0x6000_0000, // nop
+    0x6000_0000, // nop
+    0x7F0C_42A6, // mftb r24
+    0x7F5A_02A6, // mfsrr0 r26
+    0x7F7B_02A6, // mfsrr1 r27
+    0x7F80_00A6, // mfmsr r28
+    0x4800_0000, // b 80
+];
+
+/// Holds an expired decrementer and the interrupt of room back, and lets both in; the handlers are at 192 and 128.
+pub const BOTH: [u32; 51] = [
+    0x3860_0080, // li r3,128
+    0x7C74_63A6, // mtivor4 r3
+    0x3860_00C0, // li r3,192
+    0x7C7A_63A6, // mtivor10 r3
+    0x3860_0001, // li r3,1
+    0x7C76_0BA6, // mtdecar r3
+    0x3C80_0440, // lis r4,1088
+    0x7C94_53A6, // mttcr r4
+    0x7C76_03A6, // mtdec r3
+    0x3D60_0001, // lis r11,1
+    0x616B_0006, // ori r11,r11,6
+    0x3880_0000, // li r4,0
+    0x4400_0022, // sc 1
+    0x7C00_8146, // wrteei 1
+    0x3BC0_0001, // li r30,1
+    0x6000_0000, // nop
+    0x6000_0000, // nop
+    0x6000_0000, // nop
+    0x6000_0000, // nop
+    0x6000_0000, // nop
+    0x6000_0000, // nop
+    0x6000_0000, // nop
+    0x6000_0000, // nop
+    0x6000_0000, // nop
+    0x6000_0000, // nop
+    0x6000_0000, // nop
+    0x6000_0000, // nop
+    0x6000_0000, // nop
+    0x6000_0000, // nop
+    0x6000_0000, // nop
+    0x6000_0000, // nop
+    0x6000_0000, // nop
+    0x7F1A_02A6, // mfsrr0 r24
+    0x3D60_0001, // lis r11,1
+    0x616B_0009, // ori r11,r11,9
+    0x4400_0022, // sc 1
+    0x7C99_2378, // mr r25,r4
+    0x4C00_0064, // rfi
+    0x6000_0000, // nop
+    0x6000_0000, // nop
+    0x6000_0000, // nop
+    0x6000_0000, // nop
+    0x6000_0000, // nop
+    0x6000_0000, // nop
+    0x6000_0000, // nop
+    0x6000_0000, // nop
+    0x6000_0000, // nop
+    0x6000_0000, // nop
+    0x7F5A_02A6, // mfsrr0 r26
+    0x7F6C_42A6, // mftb r27
+    0x4800_0000, // b 200
+];

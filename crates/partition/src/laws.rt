@@ -1,7 +1,7 @@
 //! Laws of the definition that no one call could state.
 
 ghost use Rattle.partition.specs.Refusal.{RefusalsAreQuiet};
-ghost use Rattle.partition.specs.Reached.{TranslationsStaySound};
+ghost use Rattle.partition.specs.Reached.{InterruptsStaySound, TranslationsStaySound};
 
 /// A hypercall that is refused changes r3 alone, besides the clocks, the program counter and the count of steps. One
 /// that is done in part changes r4 and what is outstanding too.
@@ -13,4 +13,9 @@ pub fn refusals_are_quiet()
 /// way of TLB0.
 pub fn translations_stay_sound()
     ensures { TranslationsStaySound }
+{}
+
+/// No machine that a description can come to has another interrupt latched than those of receive handles.
+pub fn interrupts_stay_sound()
+    ensures { InterruptsStaySound }
 {}

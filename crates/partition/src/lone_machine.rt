@@ -1,14 +1,15 @@
 //! A lone machine: a partition with real memory of its own and with ports in memory.
 
-ghost use Rattle.std.specs.Prelude.{◌≡◌, ℕ, ◌+◌, ◌<◌, ◌≤◌, true, List, Some, length, IfOk, IfSome};
+ghost use Rattle.std.specs.Prelude.{◌≡◌, ℕ, ◌+◌, ◌<◌, ◌≤◌, ◌↔◌, true, List, Some, length, IfOk, IfSome};
 ghost use Rattle.std.specs.List.{list_all};
 ghost use Rattle.ground.specs.Extents.{AreSmall};
 ghost use Rattle.machine_desc.specs.Sound.{IsSound};
 ghost use Rattle.fresh_load.specs.Placed.{extents_of};
 ghost use Rattle.partition.specs.Port.{kinds_of, kind_at, end_at};
 ghost use Rattle.partition.specs.Act.{act_of, ports_after, state_after, steps_after};
-ghost use Rattle.partition.specs.Machine.{most_steps, fresh, core_at, place_in};
-ghost use Rattle.partition.specs.Event.{Room, Bytes, apply};
+ghost use Rattle.partition.specs.Machine.{most_steps, fresh, shape_of, core_at, place_in};
+ghost use Rattle.partition.specs.Calling.{IsUnbuilt};
+ghost use Rattle.partition.specs.Event.{Room, Bytes, Ring, apply};
 ghost use Rattle.partition.specs.Step as spec;
 ghost use Rattle.partition.specs.Lending.{HasBytes, HasHandle, IsOutstanding, IsStepped, KeepsUnbuilt};
 ghost use Rattle.partition.specs.Loading.{have_extents};
@@ -17,10 +18,11 @@ use crate::acts::Acts;
 use crate::kind::Kind;
 use crate::mem_ports::MemPorts;
 use crate::partition::Partition;
+use crate::ports::Ports;
 use core_step::Core;
 use fresh_load::load;
 use ground::Ground;
-use machine_desc::{Desc, State};
+use machine_desc::{Act, Desc, State};
 use memory_areas::AreaMap;
 use outside::NoMemory;
 use std::alloc::Global;
@@ -117,6 +119,9 @@ impl LoneMachine {
         requires few { self.old.machine.inner.steps < most_steps }
         ensures stepped { (feed : List ℕ) → IsStepped (extents_of self.old.desc.regions) (spec.step self.old.desc self.old.machine core feed)
             self.new.machine result.act result.shared.items }
+        ensures unbuilt { result.act ≡ Act.NotBuilt
+            ↔ IsUnbuilt (shape_of self.old.desc) (core_at self.old.machine.inner.cores core) self.old.machine.inner.interrupts self.old.machine.ports
+            self.old.machine.memory }
         ensures desc { self.new.desc ≡ self.old.desc }
         ensures cores { length self.new.machine.inner.cores ≡ length self.old.machine.inner.cores }
         ensures state { self.new.machine.inner.state ≡ state_after (act_of result.act) }
@@ -130,6 +135,22 @@ impl LoneMachine {
         ensures handle { HasHandle (kinds_of self.old.desc.ports) result.act }
     {
         self.part.step(core, &mut self.memory, &mut self.ports)
+    }
+
+    /// The doorbell rings that a handle receives.
+    pub fn ring(&mut self, h: u32)
+        requires { kind_at (kinds_of self.old.desc.ports) h ≡ Some Kind.Receive }
+        ensures { self.new ≡ record self.old { machine = apply self.old.desc self.old.machine (Ring h) } }
+    {
+        self.part.ring(h);
+    }
+
+    /// How many received bytes wait on a channel.
+    pub fn waiting(&self, h: u32) -> u16
+        requires { kind_at (kinds_of self.now.desc.ports) h ≡ Some Kind.Channel }
+        ensures { result ≡ length (end_at self.now.machine.ports h).received }
+    {
+        self.ports.waiting(h)
     }
 
     /// Bytes come on a channel, which has room for them.

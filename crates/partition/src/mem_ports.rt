@@ -1,6 +1,6 @@
 //! Ports in memory.
 
-ghost use Rattle.std.specs.Prelude.{◌≡◌, ◌+◌, ◌≤◌, length, map, Some, IfOk};
+ghost use Rattle.std.specs.Prelude.{◌≡◌, ◌+◌, ◌≤◌, length, map, take, Some, IfOk};
 ghost use Rattle.partition.specs.Port.{kinds_of, kind_of, kind_at, end_at, come_on, freed_on, fresh_end};
 ghost use Rattle.partition.specs.MemPorts as spec;
 
@@ -74,6 +74,7 @@ impl MemPorts {
     pub fn free(&mut self, h: u32, into: &mut [u8])
         requires channel { kind_at (spec.sorts_of self.old) h ≡ Some Kind.Channel }
         requires sent { length into.old ≤ (end_at (spec.ends_of self.old) h).outstanding }
+        ensures bytes { into.new ≡ take (length into.old) (spec.mem_end_at self.old h).channel.at_b }
         ensures ends { spec.ends_of self.new ≡ freed_on (spec.ends_of self.old) h (length into.old) }
         ensures kinds { spec.sorts_of self.new ≡ spec.sorts_of self.old }
     {

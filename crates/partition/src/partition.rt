@@ -1,19 +1,22 @@
 //! A partition: its machine but for its memory and for the ends of its channels, which it is lent.
 
-ghost use Rattle.std.specs.Prelude.{◌≡◌, ℕ, ◌<◌, ◌≤◌, ◌↔◌, List, length, slice_set, IfOk, IfSome};
+ghost use Rattle.std.specs.Prelude.{◌≡◌, ℕ, ◌<◌, ◌≤◌, ◌↔◌, List, Some, length, slice_set, IfOk, IfSome};
 ghost use Rattle.ground.specs.Own.{own_of, KeepsForeign};
 ghost use Rattle.core_step.specs.Access.{SameSizes};
 ghost use Rattle.machine_desc.specs.Sound.{IsSound};
 ghost use Rattle.fresh_load.specs.Placed.{ArePlaced, extents_of};
-ghost use Rattle.partition.specs.Port.{kinds_of};
+ghost use Rattle.partition.specs.Port.{End, kinds_of, kind_at};
 ghost use Rattle.partition.specs.Act.{act_of, ports_after, state_after, steps_after};
 ghost use Rattle.partition.specs.Machine.{most_steps, fresh_inner, shape_of, core_at, place_in};
 ghost use Rattle.partition.specs.Calling.{IsUnbuilt};
+ghost use Rattle.partition.specs.Event.{Ring, apply};
 ghost use Rattle.partition.specs.Step as spec;
 ghost use Rattle.partition.specs.Lending.{Part, machine_of, Did, HasBytes, HasHandle, IsCoreStepped, IsStepped, KeepsUnbuilt};
 
 use crate::acts::Acts;
 use crate::cpu::Cpu;
+use crate::interrupts::{bell_at, interrupt_count};
+use crate::kind::Kind;
 use crate::ports::Ports;
 use core_step::Core;
 use ground::Ground;
@@ -21,6 +24,7 @@ use machine_desc::{Act, Desc, State};
 use outside::NoMemory;
 use std::alloc::Global;
 use std::marker::Model;
+use vpic::Vpic;
 
 /// A partition of a described machine. With the ports and the real memory that it is lent for a step it stands for one
 /// lone machine: contracts see its description and what it holds by itself. Only `new` takes memory.
@@ -28,6 +32,7 @@ use std::marker::Model;
 pub struct Partition {
     desc: Desc,
     cores: Vec<Cpu>,
+    vpic: Vpic,
     state: State,
     steps: u64,
 }
@@ -35,16 +40,18 @@ pub struct Partition {
 impl Model for Partition {
     ghost use Rattle.std.specs.Prelude.{◌≡◌, length};
     ghost use Rattle.machine_desc.specs.Sound.{IsSound};
+    ghost use Rattle.partition.specs.Interrupts.{interrupt_count};
     ghost use Rattle.partition.specs.Lending.{Part};
 
     ghost Value = { Part };
 
     ghost view = { λ part. record {
       desc = part.desc;
-      inner = record { cores = part.cores.items; state = part.state; steps = part.steps };
+      inner = record { cores = part.cores.items; interrupts = part.vpic; state = part.state; steps = part.steps };
     } };
 
-    ghost invariant = { λ part. IsSound part.desc × (length part.cores.items ≡ length part.desc.cores) };
+    ghost invariant = { λ part.
+        IsSound part.desc × (length part.cores.items ≡ length part.desc.cores) × (length part.vpic.sources ≡ interrupt_count part.desc.ports) };
 }
 
 impl Partition {
@@ -62,9 +69,11 @@ impl Partition {
         } else {
             State::Running
         };
+        let vpic = Vpic::new(interrupt_count(&desc));
         Ok(Partition {
             desc,
             cores,
+            vpic,
             state,
             steps: 0,
         })
@@ -123,7 +132,8 @@ impl Partition {
             (spec.step self.old.desc (machine_of self.old (P.seen ports.old) ground.old) core feed)
             (machine_of self.new (P.seen ports.new) ground.new) result.act result.shared.items }
         ensures unbuilt { result.act ≡ Act.NotBuilt
-            ↔ IsUnbuilt (shape_of self.old.desc) (core_at self.old.inner.cores core) (own_of (extents_of self.old.desc.regions) ground.old) }
+            ↔ IsUnbuilt (shape_of self.old.desc) (core_at self.old.inner.cores core) self.old.inner.interrupts (P.seen ports.old)
+            (own_of (extents_of self.old.desc.regions) ground.old) }
         // What else others know of a step.
         ensures desc { self.new.desc ≡ self.old.desc }
         ensures cores { length self.new.inner.cores ≡ length self.old.inner.cores }
@@ -145,17 +155,31 @@ impl Partition {
         acts
     }
 
+    /// The doorbell rings that a handle receives.
+    #[tactic(auto, unfolding(crate::specs::Event::apply))]
+    pub fn ring(&mut self, h: u32)
+        requires { kind_at (kinds_of self.old.desc.ports) h ≡ Some Kind.Receive }
+        ensures desc { self.new.desc ≡ self.old.desc }
+        ensures rung { (ends : List End) (memory : List (List ℕ)) → machine_of self.new ends memory ≡ apply self.old.desc (machine_of self.old ends memory) (Ring h) }
+    {
+        if let Some(irq) = bell_at(self.desc.ports.as_slice(), h) {
+            self.vpic.ring(irq);
+        }
+    }
+
     /// Does what the step is for its core.
     fn step_core<P: Ports>(&mut self, core: usize, ground: &mut Ground, ports: &mut P) -> Acts
         requires core { core < length self.old.inner.cores }
         requires placed { ArePlaced ground.old self.old.desc.regions }
         requires kinds { P.kinds ports.old ≡ kinds_of self.old.desc.ports }
         ensures stepped { IsCoreStepped (extents_of self.old.desc.regions)
-            (spec.core_step (shape_of self.old.desc) (core_at self.old.inner.cores core) (P.seen ports.old) (own_of (extents_of self.old.desc.regions) ground.old))
-            (core_at self.new.inner.cores core) ground.new result.act result.shared.items }
+            (spec.core_step (shape_of self.old.desc) (core_at self.old.inner.cores core) self.old.inner.interrupts (P.seen ports.old)
+            (own_of (extents_of self.old.desc.regions) ground.old))
+            (core_at self.new.inner.cores core) self.new.inner.interrupts ground.new result.act result.shared.items }
         ensures rest { self.new ≡ record self.old {
           inner = record self.old.inner {
             cores = slice_set self.old.inner.cores core (core_at self.new.inner.cores core);
+            interrupts = self.new.inner.interrupts;
           };
         } }
         ensures kept { KeepsUnbuilt result.act self.old self.new }
@@ -168,7 +192,7 @@ impl Partition {
         ensures same { P.kinds ports.new ≡ P.kinds ports.old }
         ensures did { Did P.sends P.takes result.act ports.old ports.new }
     {
-        self.cores[core].step(&self.desc, ground, ports)
+        self.cores[core].step(&self.desc, &mut self.vpic, ground, ports)
     }
 
     /// Counts the step, and stops where it says so.

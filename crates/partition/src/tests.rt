@@ -93,7 +93,7 @@ struct Ending {
     registers: &'static [(u8, u32)],
 }
 
-const ENDINGS: [Ending; 10] = [
+const ENDINGS: [Ending; 11] = [
     // tlbre of a slot of TLB0 that was never written, and mfspr r24,MAS1
     Ending {
         image: &[0x7C00_0764, 0x7F11_9AA6],
@@ -112,6 +112,11 @@ const ENDINGS: [Ending; 10] = [
             (29, 1),
             (30, 0),
         ],
+    },
+    Ending {
+        image: &BOTH,
+        steps: 24,
+        registers: &[(24, 0x38), (25, 1), (26, 0x38), (27, 24), (30, 0)],
     },
     Ending {
         image: &NESTED,
@@ -402,9 +407,9 @@ struct Unbuilt {
 }
 
 const UNBUILT: [Unbuilt; 3] = [
-    // a call of the interrupt controller
+    // a call of managers
     Unbuilt {
-        image: &[0x3D60_0001, 0x616B_0004, 0x4400_0022],
+        image: &[0x3D60_0002, 0x616B_0004, 0x4400_0022],
         steps: 2,
         dec: 0,
         is_idle: false,
@@ -412,7 +417,7 @@ const UNBUILT: [Unbuilt; 3] = [
     // li r3,1; mtdec r3; and the call, at whose step the decrementer would expire
     Unbuilt {
         image: &[
-            0x3D60_0001,
+            0x3D60_0002,
             0x616B_0004,
             0x3860_0001,
             0x7C76_03A6,
@@ -425,7 +430,7 @@ const UNBUILT: [Unbuilt; 3] = [
     // DIE, li r3,3; mtdec r3; wait; and the call, at the step that would wake the core
     Unbuilt {
         image: &[
-            0x3D60_0001,
+            0x3D60_0002,
             0x616B_0004,
             0x3C80_0400,
             0x7C94_53A6,

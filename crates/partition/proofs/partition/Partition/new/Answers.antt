@@ -1,4 +1,7 @@
-use Rattle.std.proofs.Common.{arith}
+use Rattle.std.proofs.Common.{◌≡◌, ◌∙◌, length, ap, arith}
+use Rattle.std.proofs.lemmas.Grind.{common_steps}
+use Rattle.vpic.specs.Controller.{Controller}
+use Rattle.partition.proofs.Latched.{fresh_sources}
 use Rattle.partition.proofs.Starts.{starts}
 use Rattle.partition.proofs.partition.Partition.new.Goals as goal
 
@@ -9,3 +12,11 @@ overflow_cast-desc c = let start = (starts c.args.desc c.requires.sound).tree in
 -- src/partition.rt:57:19
 pub booted-requires : goal.booted-requires
 booted-requires c = (starts c.args.desc c.requires.sound).entry
+
+pub invariant_of-result : goal.invariant_of-result
+invariant_of-result c =
+    let one : length c.push.new.self.items ≡ length c.args.desc.cores = grind (arith, common_steps, c.requires.core, c.in_ok-push.ensures.items, c.in_ok-cores.ensures.items) in (
+      c.requires.sound,
+      one,
+      ap (λ (it : Controller). length it.sources) c.new-vpic.ensures ∙ fresh_sources c.interrupt_count.result ∙ c.interrupt_count.ensures.count,
+    )

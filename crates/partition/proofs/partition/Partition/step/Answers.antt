@@ -17,7 +17,7 @@ returns-clause-stepped g c feed =
 pub returns-clause-unbuilt : goal.returns-clause-unbuilt
 returns-clause-unbuilt g c =
     let old : Part = c.args.self.now in
-    told_unbuilt (shape_of old.desc) (core_at old.inner.cores c.args.core) (g.P.Ports.seen c.args.ports.now) (own_of (extents_of old.desc.regions) c.args.ground.now) c.step_core-acts.result.act c.step_core-acts.ensures.stepped.act
+    told_unbuilt (shape_of old.desc) (core_at old.inner.cores c.args.core) old.inner.interrupts (g.P.Ports.seen c.args.ports.now) (own_of (extents_of old.desc.regions) c.args.ground.now) c.step_core-acts.result.act c.step_core-acts.ensures.stepped.act
 
 pub returns-clause-placed : goal.returns-clause-placed
 returns-clause-placed g c =
