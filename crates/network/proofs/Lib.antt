@@ -1,0 +1,7 @@
+pub mod Logs
+pub mod Turns
+pub mod Alone
+pub mod Reading
+pub mod Names
+pub mod Printed
+pub mod SmallRun

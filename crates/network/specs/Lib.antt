@@ -1,0 +1,10 @@
+pub mod Network
+pub mod Change
+pub mod World
+pub mod Entering
+pub mod Effects
+pub mod Turn
+pub mod Report
+pub mod Lines
+pub mod Laws
+pub mod Example
