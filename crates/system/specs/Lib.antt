@@ -1,0 +1,4 @@
+pub mod Board
+pub mod Wired
+pub mod Channels
+pub mod Opening

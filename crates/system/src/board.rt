@@ -1,0 +1,190 @@
+//! What partitions share but for memory, lent to one of them at a time.
+
+ghost use Rattle.std.specs.Prelude.{◌≡◌, ◌+◌, ◌-◌, ◌<◌, ◌≤◌, min, Some, length, slice_set, take, IfOk};
+ghost use Rattle.machine_desc.specs.Joined.{AreJoined};
+ghost use Rattle.system.specs.Wired.{channel_wire, opening_lines};
+ghost use Rattle.byte_channel.specs.Waiting.{other_side, waiting_at};
+ghost use Rattle.partition.specs.Port.{kind_at};
+ghost use Rattle.system.specs.Board as spec;
+
+use crate::wire::{ChannelEnd, Wire};
+use crate::wiring::{all_wires, beginnings, console_sides, empty_channels};
+use byte_channel::{Channel, Side};
+use machine_desc::{Desc, Wiring};
+use outside::{Listed, NoMemory};
+use partition::{Kind, Ports};
+use std::alloc::Global;
+use std::marker::Model;
+
+/// What the handles of all partitions lead to: one channel for its two ends, and whether each partition runs. It is lent to
+/// one partition at a time, which knows its own handles alone. No call takes memory.
+#[derive(Drop)]
+pub struct Board {
+    who: usize,
+    wires: Vec<Listed<Wire>>,
+    channels: Vec<Channel>,
+    running: Vec<bool>,
+    consoles: Vec<ChannelEnd>,
+}
+
+impl Model for Board {
+    ghost use Rattle.system.specs.Board.{Lines, AreLines};
+
+    ghost Value = { Lines };
+
+    ghost view = { λ board. record {
+      who = board.who;
+      wires = board.wires.items;
+      channels = board.channels.items;
+      running = board.running.items;
+      consoles = board.consoles.items;
+    } };
+
+    ghost invariant = { λ board. AreLines (record {
+      who = board.who;
+      wires = board.wires.items;
+      channels = board.channels.items;
+      running = board.running.items;
+      consoles = board.consoles.items;
+    }) };
+}
+
+impl Board {
+    /// What the handles of joined partitions lead to before the first turn. Fails only where memory runs out.
+    #[tactic(auto, using(crate::proofs::Tied::opening_kept, crate::proofs::Tied::few_handles), unfolding(crate::specs::Wired::opening_lines))]
+    pub fn new(alloc: Global, descs: &[Desc], wiring: &Wiring) -> Result<Board, NoMemory>
+        requires joined { AreJoined descs.now wiring.now }
+        ensures opening { IfOk result (λ board. board ≡ opening_lines descs.now wiring.now) }
+    {
+        let wires = all_wires(alloc, wiring, descs)?;
+        let channels = empty_channels(alloc, wiring.links.as_slice().len())?;
+        let running = beginnings(alloc, descs)?;
+        let consoles = console_sides(
+            alloc,
+            wiring.links.as_slice(),
+            wiring.consoles.as_slice().len(),
+        )?;
+        Ok(Board {
+            who: 0,
+            wires,
+            channels,
+            running,
+            consoles,
+        })
+    }
+
+    /// Lends to the partition of this number from now on.
+    pub fn lend_to(&mut self, who: usize)
+        ensures { self.new ≡ record self.old { who = who } }
+    {
+        self.who = who;
+    }
+
+    /// What a handle of the partition leads to.
+    #[tactic(auto, using(crate::proofs::Handles::is_there, crate::proofs::Handles::is_lent))]
+    fn wire(&self, h: u32, kind: Kind) -> Wire
+        requires { kind_at (spec.own_kinds self.now) h ≡ Some kind }
+        ensures wire { result ≡ spec.own_wire self.now h }
+        ensures kind { spec.kind_of result ≡ kind }
+        ensures some { 0 < h }
+        ensures there { h - 1 < length (spec.own_wires self.now) }
+        ensures wires { spec.AreWires (length self.now.channels) (length self.now.wires) (spec.own_wires self.now) }
+    {
+        self.wires[self.who].as_slice()[(h - 1) as usize]
+    }
+
+    /// Sends at an end of a channel.
+    fn send_at(&mut self, link: usize, side: Side, piece: &[u8])
+        requires link { link < length self.old.channels }
+        requires room { length (waiting_at (other_side side) (spec.channel_at self.old.channels link)) + length piece.now ≤ 256 }
+        ensures { self.new ≡ record self.old { channels = spec.sent_by self.old.channels (Wire.Channel link side) piece.now } }
+    {
+        self.channels[link].send(side, piece);
+    }
+
+    /// Takes what waits at an end of a channel.
+    fn take_at(&mut self, link: usize, side: Side, into: &mut [u8])
+        requires link { link < length self.old.channels }
+        requires waiting { length into.old ≤ length (waiting_at side (spec.channel_at self.old.channels link)) }
+        ensures bytes { into.new ≡ take (length into.old) (waiting_at side (spec.channel_at self.old.channels link)) }
+        ensures left { self.new ≡ record self.old { channels = spec.taken_by self.old.channels (Wire.Channel link side) (length into.old) } }
+    {
+        self.channels[link].receive(side, into);
+    }
+
+    /// As many of these bytes from a console as there is room for come to the other end of its channel. Answers how many.
+    pub fn enter(&mut self, console: usize, bytes: &[u8]) -> usize
+        requires { console < length self.old.consoles }
+        ensures count { result ≡ min (spec.console_room self.old console) (length bytes.now) }
+        ensures entered { self.new ≡ record self.old {
+          channels = spec.sent_by self.old.channels (channel_wire (spec.console_at self.old.consoles console)) (take result bytes.now);
+        } }
+    {
+        let ChannelEnd { link, side } = self.consoles[console];
+        let room = self.channels[link].room(side) as usize;
+        let count = bytes.len().min(room);
+        self.send_at(link, side, &bytes[..count]);
+        count
+    }
+
+    /// The partition that a handle manages.
+    pub fn managed(&self, h: u32) -> usize
+        requires { kind_at (spec.own_kinds self.now) h ≡ Some Kind.Manage }
+        ensures { spec.own_wire self.now h ≡ Wire.Manage result }
+    {
+        match self.wire(h, Kind::Manage) {
+            Wire::Manage { part } => part,
+            _ => unreachable!(),
+        }
+    }
+
+    /// Notes whether a partition runs.
+    pub fn mark(&mut self, part: usize, running: bool)
+        requires { part < length self.old.running }
+        ensures { self.new ≡ record self.old { running = slice_set self.old.running part running } }
+    {
+        self.running[part] = running;
+    }
+}
+
+impl Ports for Board {
+    ghost kinds = { spec.own_kinds };
+
+    ghost seen = { spec.own_ends };
+
+    ghost sends = { spec.Sends };
+
+    ghost takes = { spec.Takes };
+
+    #[tactic(auto, using(crate::proofs::Seen::end_here))]
+    fn waiting(&self, h: u32) -> u16 {
+        match self.wire(h, Kind::Channel) {
+            Wire::Channel { link, side } => self.channels[link].waiting(side),
+            _ => unreachable!(),
+        }
+    }
+
+    #[tactic(auto, using(crate::proofs::Seen::end_here))]
+    fn room(&self, h: u32) -> u16 {
+        match self.wire(h, Kind::Channel) {
+            Wire::Channel { link, side } => self.channels[link].room(side),
+            _ => unreachable!(),
+        }
+    }
+
+    #[tactic(auto, using(crate::proofs::Seen::seen_sent, crate::proofs::Seen::end_here))]
+    fn send(&mut self, h: u32, piece: &[u8]) {
+        match self.wire(h, Kind::Channel) {
+            Wire::Channel { link, side } => self.send_at(link, side, piece),
+            _ => unreachable!(),
+        }
+    }
+
+    #[tactic(auto, using(crate::proofs::Seen::seen_taken, crate::proofs::Seen::end_here))]
+    fn receive(&mut self, h: u32, into: &mut [u8]) {
+        match self.wire(h, Kind::Channel) {
+            Wire::Channel { link, side } => self.take_at(link, side, into),
+            _ => unreachable!(),
+        }
+    }
+}
