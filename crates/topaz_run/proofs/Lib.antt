@@ -14,3 +14,5 @@ pub mod Described
 pub mod Texts
 pub mod Imaged
 pub mod Single
+pub mod NamedLines
+pub mod Ringing

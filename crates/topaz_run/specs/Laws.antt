@@ -9,6 +9,7 @@ use Rattle.config_descs.specs.Wired.{wiring_of}
 use Rattle.config_rules.specs.Accepted.{IsAccepted}
 use Rattle.elf_image.specs.declared.image.Image.{Image}
 use Rattle.fresh_load.specs.Described.{described, first_fault}
+use Rattle.network.specs.Laws.{IsNamed}
 
 -- The description is that of the partition, completed by some file's image and by some tree, and none of I4 to I7 is broken.
 pub record IsDescribed (config : Config) (part : PartDef) (desc : Desc) : Type 0 where
@@ -27,3 +28,8 @@ AreDescribed config _ _ = ⊥
 -- They are joined with the wiring of the configuration, each of them sound.
 abbrev pub DescribedAreJoined : Type 0
 DescribedAreJoined = (config : Config) → IsAccepted config → (descs : List Desc) → AreDescribed config config.parts descs → AreJoined descs (wiring_of config)
+
+-- Names tell their lines apart in a report: they are words, differ, and are none that other lines begin with.
+abbrev pub DescribedAreNamed : Type 0
+DescribedAreNamed =
+    (config : Config) → IsAccepted config → (descs : List Desc) → AreDescribed config config.parts descs → IsNamed (record { descs = descs; wiring = wiring_of config })

@@ -1,5 +1,6 @@
 -- The run of one described machine whose channels lead to consoles, turn by turn, and what is written of it.
-use Rattle.std.specs.Prelude.{ℕ, zero, suc, ◌+◌, ◌%◌, Bool, true, false, List, [], ◌∷◌, ◌++◌, length, replicate, codes, Option, None, Some, slice_get, slice_index_or, slice_set, if◌then◌else◌}
+use Rattle.std.specs.Prelude.{ℕ, zero, suc, ◌+◌, ◌%◌, Bool, true, false, List, [], ◌∷◌, ◌++◌, length, filter, replicate, codes, Option, None, Some, slice_get, slice_index_or, slice_set, if◌then◌else◌}
+use Rattle.std.specs.List.{range_with_len}
 use Rattle.machine_desc.specs.declared.act.State.{State}
 use Rattle.machine_desc.specs.declared.act.State.TheVariants.{Running}
 use Rattle.machine_desc.specs.declared.desc.Desc.{Desc}
@@ -7,13 +8,15 @@ use Rattle.machine_desc.specs.declared.wiring.PortRef.{PortRef}
 use Rattle.machine_desc.specs.declared.wiring.End.{End}
 use Rattle.machine_desc.specs.declared.wiring.End.TheVariants.{Console}
 use Rattle.machine_desc.specs.declared.wiring.Link.{Link}
+use Rattle.machine_desc.specs.declared.wiring.Bell.{Bell}
 use Rattle.machine_desc.specs.declared.wiring.Wiring.{Wiring}
 use Rattle.machine_desc.specs.Joined.{is_at}
 use Rattle.partition.specs.Machine.{Machine, place_in, fresh}
-use Rattle.partition.specs.Act.{Act, Sent, Faulted, NotBuilt}
+use Rattle.partition.specs.Act.{Act, Sent, Rang, Faulted, NotBuilt}
 use Rattle.partition.specs.Step.{step}
-use Rattle.partition.specs.Event.{Room, apply}
-use Rattle.trace_text.specs.Acts.{sent_line, faulted_line}
+use Rattle.partition.specs.Event.{Room, Ring, apply}
+use Rattle.network.specs.Network.{hears, ref_to}
+use Rattle.trace_text.specs.Acts.{sent_line, ring_line, faulted_line}
 use Rattle.trace_text.specs.Ends.{state_word, end_line, console_line}
 use Rattle.trace_text.specs.Refusals.{refused_line}
 use Rattle.topaz_run.specs.Text.{step_place}
@@ -46,6 +49,17 @@ abbrev pub printed_on : List ℕ → Option ℕ → ℕ → List ℕ
 printed_on printed None count = printed
 printed_on printed (Some console) count = slice_set printed console (slice_index_or printed console 0 + count)
 
+-- ---- doorbells
+
+-- the partition's own handles, of so many, at which a ring of one of them is heard, in their order
+abbrev pub heard_in : List Bell → ℕ → ℕ → List ℕ
+heard_in bells handle count = filter (λ (other : ℕ). hears bells (ref_to 0 handle) (ref_to 0 other)) (range_with_len 1 count)
+
+-- the machine once each of these handles was rung
+abbrev pub rung : Desc → List ℕ → Machine → Machine
+rung desc [] machine = machine
+rung desc (handle ∷ handles) machine = rung desc handles (apply desc machine (Ring handle))
+
 -- ---- a turn
 
 -- what a turn leaves, the line that it writes, if any, and whether its step is built
@@ -65,6 +79,11 @@ abbrev pub turned : World → Machine → Act → Turned
 turned world stepped (Sent handle bytes) = record {
   after = printing world stepped handle bytes;
   line = sent_line world.desc.name stepped.inner.steps handle bytes;
+  is_built = true;
+}
+turned world stepped (Rang handle) = record {
+  after = record world { machine = rung world.desc (heard_in world.wiring.bells handle (length world.desc.ports)) stepped };
+  line = ring_line world.desc.name stepped.inner.steps handle;
   is_built = true;
 }
 turned world stepped Faulted = record {

@@ -98,10 +98,10 @@ pub const RECEIVE: [u32; 15] = [
     0x4800_0000, // b .
 ];
 
-/// Waits for an interrupt by a service that isn't built yet.
+/// Asks for a service of managers, which isn't built yet.
 pub const NOT_BUILT: [u32; 3] = [
-    0x3D60_0001, // lis r11,1
-    0x616B_0010, // ori r11,r11,16
+    0x3D60_0002, // lis r11,2
+    0x616B_0004, // ori r11,r11,4
     0x4400_0022, // sc 1
 ];
 

@@ -1,8 +1,8 @@
 //! Laws of the definitions. Each is a function whose contract is the law.
 
-ghost use Rattle.topaz_run.specs.Laws.{DescribedAreJoined};
+ghost use Rattle.topaz_run.specs.Laws.{DescribedAreJoined, DescribedAreNamed};
 
-use config_rules::{accepted_keep_parts, descriptions_are_joined};
+use config_rules::{accepted_keep_names, accepted_keep_parts, descriptions_are_joined};
 
 /// The descriptions that images and device trees complete, of the partitions of an accepted configuration, are joined
 /// with its wiring.
@@ -11,4 +11,11 @@ pub fn described_partitions_are_joined()
 {
     accepted_keep_parts();
     descriptions_are_joined();
+}
+
+/// In a report of the partitions of an accepted configuration the lines of each are found by its name.
+pub fn described_partitions_are_named()
+    ensures { DescribedAreNamed }
+{
+    accepted_keep_names();
 }

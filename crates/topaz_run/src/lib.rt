@@ -9,6 +9,7 @@
 
 mod accepting;
 mod bare;
+mod bells;
 mod built_in;
 mod check;
 mod command;
@@ -31,7 +32,7 @@ mod top_call;
 mod words;
 mod world;
 
-pub use laws::described_partitions_are_joined;
+pub use laws::{described_partitions_are_joined, described_partitions_are_named};
 pub use status::Status;
 pub use top_call::topaz;
 

@@ -12,8 +12,9 @@ ghost use Rattle.partition.specs.Act.{act_of, steps_after};
 ghost use Rattle.partition.specs.Event.{Room, apply};
 ghost use Rattle.partition.specs.Lending.{HasBytes, HasHandle, IsOutstanding, KeepsUnbuilt};
 ghost use Rattle.topaz_run.specs.Printed.{KeepsCounts};
-ghost use Rattle.topaz_run.specs.Report.{console_of as console_for, console_lines, end_lines, is_running, opening, printed_on, stepping, turn, turned};
+ghost use Rattle.topaz_run.specs.Report.{console_of as console_for, console_lines, end_lines, heard_in, is_running, opening, printed_on, rung, stepping, turn, turned};
 
+use crate::bells::ring;
 use crate::consoles::{console_of, print_on, write_consoles};
 use crate::text::write_not_built;
 use machine_desc::{Act, Desc, State, Wiring};
@@ -33,7 +34,7 @@ pub struct World {
 }
 
 impl Model for World {
-    ghost use Rattle.std.specs.Prelude.{◌≡◌, length};
+    ghost use Rattle.std.specs.Prelude.{◌≡◌, ◌≤◌, length};
     ghost use Rattle.topaz_run.specs.Printed.{KeepsCounts};
     ghost use Rattle.topaz_run.specs.Report.{World};
 
@@ -41,7 +42,8 @@ impl Model for World {
 
     ghost view = { λ w. record { desc = w.machine.desc; wiring = w.wiring; machine = w.machine.machine; printed = w.printed.items } };
 
-    ghost invariant = { λ w. KeepsCounts w.printed.items w.machine.machine.inner.steps × (length w.printed.items ≡ length w.wiring.consoles) };
+    ghost invariant = { λ w. KeepsCounts w.printed.items w.machine.machine.inner.steps × (length w.printed.items ≡ length w.wiring.consoles)
+        × (length w.machine.desc.ports ≤ 64) };
 }
 
 /// No byte printed by so many consoles.
@@ -57,7 +59,7 @@ fn nothing_printed(alloc: Global, count: usize) -> Result<Vec<u64>, NoMemory>
 
 impl World {
     /// The partition before the first turn.
-    #[tactic(auto, using(crate::proofs::Counts::none_printed, crate::proofs::Freed::none_done), unfolding(crate::specs::Report::opening))]
+    #[tactic(auto, using(crate::proofs::Counts::none_printed, crate::proofs::Freed::none_done, crate::proofs::Ringing::few_ports), unfolding(crate::specs::Report::opening))]
     pub fn new(alloc: Global, desc: Desc, wiring: Wiring) -> Result<World, NoMemory>
         requires sound { IsSound desc }
         requires core { length desc.cores ≡ 1 }
@@ -124,6 +126,12 @@ impl World {
                 act_line(out, self.name(), step, &Act::Sent { h, bytes })?;
                 Ok(true)
             }
+            Act::Rang { h } => {
+                let step = self.machine.steps();
+                self.ring(h);
+                act_line(out, self.name(), step, &Act::Rang { h })?;
+                Ok(true)
+            }
             Act::Faulted => {
                 act_line(out, self.name(), self.machine.steps(), &Act::Faulted)?;
                 Ok(true)
@@ -181,6 +189,17 @@ impl World {
         self.machine.free(h, &mut taken[..count]);
         let console = console_of(self.wiring.links.as_slice(), h);
         print_on(&mut self.printed, console, count as u64);
+    }
+
+    /// Rings the doorbell of a handle, at each of the partition's own handles that receives it.
+    #[tactic(auto, using(crate::proofs::Ringing::rung_steps))]
+    fn ring(&mut self, h: u32)
+        ensures rung { self.new ≡ record self.old {
+          machine = rung self.old.desc (heard_in self.old.wiring.bells h (length self.old.desc.ports)) self.old.machine;
+        } }
+        ensures counted { self.new.machine.inner.steps ≡ self.old.machine.inner.steps }
+    {
+        ring(&mut self.machine, self.wiring.bells.as_slice(), h);
     }
 
     /// Writes the lines after the last turn.

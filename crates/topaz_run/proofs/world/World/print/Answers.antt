@@ -1,5 +1,6 @@
-use Rattle.std.proofs.Common.{◌≡◌, ℕ, ◌-◌, ◌<◌, List, length, sym, ap, subst, ◌∙◌}
+use Rattle.std.proofs.Common.{◌≡◌, ℕ, ◌-◌, ◌<◌, ◌≤◌, List, length, sym, ap, subst, ◌∙◌}
 use Rattle.topaz_run.specs.Printed.{KeepsCounts}
+use Rattle.partition.specs.Loading.{Lone}
 use Rattle.topaz_run.specs.Report.{World}
 use Rattle.topaz_run.proofs.Counts.{printed_more, printed_length}
 use Rattle.topaz_run.proofs.Freed.{freed}
@@ -14,6 +15,7 @@ invariant_of-self c =
     let steps : c.free.new.self.machine.inner.steps ≡ inside.machine.inner.steps = freed c.self.inside.machine c.free.new.self _ _ c.free.ensures in (
       subst (λ (n : ℕ). KeepsCounts c.print_on.new.printed.items n) (sym steps) (subst (λ (items : List ℕ). KeepsCounts items inside.machine.inner.steps) (sym c.print_on.ensures) more),
       ap (λ (items : List ℕ). length items) c.print_on.ensures ∙ printed_length inside.printed c.console_of-console.result c.args.count ∙ c.self.invariant.1,
+      subst (λ (l : Lone). length l.desc.ports ≤ 64) (sym c.free.ensures) c.self.invariant.2,
     )
 
 pub returns-clause-counted : goal.returns-clause-counted
