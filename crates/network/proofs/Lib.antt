@@ -1,5 +1,6 @@
 pub mod Logs
 pub mod Turns
+pub mod Resting
 pub mod Alone
 pub mod Reading
 pub mod Names

@@ -12,8 +12,9 @@ use Rattle.partition.specs.Machine.{Machine, fresh}
 use Rattle.partition.specs.Reached.{after_moves}
 use Rattle.network.specs.Network.{Network, desc_at}
 use Rattle.network.specs.Change.{Shared, changed, trace_of, are_private}
-use Rattle.network.specs.World.{Passage, machine_at, moves_of, trace_in}
-use Rattle.network.specs.Turn.{Script, run}
+use Rattle.network.specs.World.{World, Passage, passed, machine_at, moves_of, trace_in}
+use Rattle.network.specs.Entering.{waiting}
+use Rattle.network.specs.Turn.{Script, given_at, is_running, turns_from, run}
 use Rattle.network.specs.Report.{act_line, report, own_text}
 use Rattle.network.specs.Lines.{lines_of}
 
@@ -74,3 +75,18 @@ LinesAreOwn =
 -- They are those that are defined here.
 abbrev pub ActLinesAgree : Type 0
 ActLinesAgree = (name : List ℕ) (step : ℕ) (act : Told) → act_text name step act ≡ act_line name step (act_of act)
+
+-- ---- rest
+
+abbrev pub is_at_rest : Machine → Bool
+is_at_rest machine = not (is_running machine.inner.state)
+
+-- no partition runs
+abbrev pub are_at_rest : List Machine → Bool
+are_at_rest machines = list_all is_at_rest machines
+
+-- Where no partition runs and no console is given anything that doesn't enter, however late, every further turn passes.
+abbrev pub RestingNetworksStay : Type 0
+RestingNetworksStay =
+    (network : Network) (script : Script) (number more : ℕ) (world : World) → are_at_rest world.machines ≡ true
+    → ((later console : ℕ) → waiting (given_at script later console) world.consoles console ≡ []) → turns_from network script number more world ≡ passed world

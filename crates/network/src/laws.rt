@@ -1,6 +1,6 @@
 //! Laws of the definitions. Each is a function with nothing to do, whose contract is the law.
 
-ghost use Rattle.network.specs.Laws.{ActLinesAgree, LinesAreOwn, OthersLeaveAlone, PartitionsFollowMoves};
+ghost use Rattle.network.specs.Laws.{ActLinesAgree, LinesAreOwn, OthersLeaveAlone, PartitionsFollowMoves, RestingNetworksStay};
 ghost use Rattle.network.specs.Example.{ReceiversAreKnown, ReservationsAreKnown, SharedBytesAreKnown, SmallRunIsKnown};
 
 /// The machine and the trace of a partition without shared areas are those of its own steps and events, on every wiring,
@@ -13,6 +13,11 @@ pub fn partitions_follow_their_own_moves()
 /// The lines of such a partition in the report, found by its name alone, are the text of its own steps and of its end.
 pub fn lines_are_of_own_moves()
     ensures { LinesAreOwn }
+{}
+
+/// Where no partition runs and nothing waits that could enter, every further turn passes.
+pub fn resting_networks_stay()
+    ensures { RestingNetworksStay }
 {}
 
 /// The line that the program writes of an act is the one that is defined here.

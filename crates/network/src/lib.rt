@@ -15,5 +15,5 @@ mod laws;
 
 pub use laws::{
     act_lines_are_those_of_the_definition, lines_are_of_own_moves,
-    partitions_follow_their_own_moves, small_cases_are_known,
+    partitions_follow_their_own_moves, resting_networks_stay, small_cases_are_known,
 };
