@@ -9,7 +9,7 @@ use Rattle.machine_desc.specs.declared.desc.Desc.{Desc}
 use Rattle.machine_desc.specs.Limits.{mapped_end, spin_room}
 use Rattle.machine_desc.specs.Private.{is_private_range}
 use Rattle.machine_desc.specs.Sound.{is_start_mapped, is_private_piece, is_sound, IsSound}
-use Rattle.machine_desc.specs.Joined.{AreJoined, are_joined, are_cores_apart, are_extents_sound, are_regions_joined, are_links_joined, are_bells_joined, are_managers_joined, are_ports_joined}
+use Rattle.machine_desc.specs.Joined.{AreJoined}
 use Rattle.config_descs.specs.Desc.{desc_of, descs_of}
 use Rattle.config_descs.specs.Wired.{wiring_of}
 use Rattle.config_rules.specs.Accepted.{IsAccepted}
@@ -19,6 +19,7 @@ use Rattle.config_rules.specs.Laws.{AcceptedKeepParts, BasesAreJoined, Completed
 use Rattle.fresh_load.specs.Described.{described}
 use Rattle.fresh_load.proofs.Starting.{sound_parts, startable}
 use Rattle.topaz_run.specs.Laws.{IsDescribed, AreDescribed}
+use Rattle.topaz_run.proofs.Joins.{joins}
 
 -- completing changes nothing but entry and pieces
 stripped-described : (config : Config) (part : PartDef) (desc : Desc) → IsDescribed config part desc → stripped desc ≡ desc_of config part
@@ -71,18 +72,7 @@ all-start config (part ∷ parts) (desc ∷ descs) are sound windows =
     and_from (is_startable desc) (list_all is_startable descs) (starts config part desc are.0 here.0 window.0) (all-start config parts descs are.1 here.1 window.1)
 
 pub bases_sound : (config : Config) → AreJoined (descs_of config) (wiring_of config) → list_all is_sound (descs_of config) ≡ true
-unfolding are_joined
-bases_sound config e =
-    let descs = descs_of config in
-    let wiring = wiring_of config in
-    let a = and_parts _ (are_ports_joined descs wiring) e in
-    let b = and_parts _ (are_managers_joined descs wiring) a.0 in
-    let c = and_parts _ (are_bells_joined descs wiring) b.0 in
-    let d = and_parts _ (are_links_joined descs wiring) c.0 in
-    let f = and_parts _ (are_regions_joined descs wiring) d.0 in
-    let g = and_parts _ (are_extents_sound wiring) f.0 in
-    let h = and_parts _ (are_cores_apart descs) g.0 in
-    (and_parts _ (list_all is_sound descs) h.0).1
+bases_sound config e = (joins (descs_of config) (wiring_of config) e).sound
 
 pub described_joined : AcceptedKeepParts → BasesAreJoined → CompletedAreJoined → (config : Config) → IsAccepted config → (descs : List Desc) → AreDescribed config config.parts descs → AreJoined descs (wiring_of config)
 described_joined keep bases completed config accepted descs are =

@@ -10,6 +10,7 @@ pub mod Blobs
 pub mod Checks
 pub mod GoingOn
 pub mod Named
+pub mod Joins
 pub mod Described
 pub mod Texts
 pub mod Imaged

@@ -1,5 +1,5 @@
 -- What the run of one described partition rests on.
-use Rattle.std.proofs.Common.{◌≡◌, true, List, [], ◌∷◌, length, sum, refl, ap, ◌∙◌}
+use Rattle.std.proofs.Common.{◌≡◌, true, List, [], ◌∷◌, length, sum, refl, sym, ap, subst, ◌∙◌}
 use Rattle.std.specs.Prelude.{◌==◌, nat_le}
 use Rattle.std.specs.List.{list_all}
 use Rattle.std.proofs.lemmas.Bool.{and_parts, and_from, leb-true}
@@ -11,34 +11,19 @@ use Rattle.machine_desc.specs.declared.desc.Region.{Region}
 use Rattle.machine_desc.specs.declared.wiring.Wiring.{Wiring}
 use Rattle.machine_desc.specs.Limits.{most_bytes}
 use Rattle.machine_desc.specs.Sound.{IsSound, is_sound}
-use Rattle.machine_desc.specs.Joined.{AreJoined, are_joined, are_cores_apart, are_extents_sound, are_regions_joined, is_region_joined, are_links_joined, are_bells_joined, are_managers_joined, are_ports_joined, has_at}
+use Rattle.machine_desc.specs.Joined.{AreJoined, are_extents_sound, are_regions_joined, is_region_joined, has_at}
 use Rattle.ground.specs.Extents.{AreSmall}
 use Rattle.config_descs.specs.Desc.{desc_of}
+use Rattle.config_descs.specs.Wired.{wiring_of}
 use Rattle.config_rules.specs.Accepted.{IsAccepted}
 use Rattle.config_rules.specs.Parts.{has_one_core}
 use Rattle.config_rules.specs.Laws.{AcceptedKeepParts}
 use Rattle.fresh_load.specs.Described.{described}
 use Rattle.partition.specs.Loading.{have_extents}
-use Rattle.topaz_run.specs.Laws.{AreDescribed, IsDescribed}
+use Rattle.topaz_run.specs.Laws.{AreDescribed, DescribedAreJoined, IsDescribed}
+use Rattle.topaz_run.proofs.Joins.{joins}
 
 -- ---- what is joined
-
-pub record Joins (descs : List Desc) (wiring : Wiring) : Type 0 where
-  pub sound : list_all is_sound descs ≡ true
-  pub extents : are_extents_sound wiring ≡ true
-  pub regions : are_regions_joined descs wiring ≡ true
-
-pub joins : (descs : List Desc) (wiring : Wiring) → AreJoined descs wiring → Joins descs wiring
-unfolding are_joined
-joins descs wiring e =
-    let a = and_parts _ (are_ports_joined descs wiring) e in
-    let b = and_parts _ (are_managers_joined descs wiring) a.0 in
-    let c = and_parts _ (are_bells_joined descs wiring) b.0 in
-    let d = and_parts _ (are_links_joined descs wiring) c.0 in
-    let f = and_parts _ (are_regions_joined descs wiring) d.0 in
-    let g = and_parts _ (are_extents_sound wiring) f.0 in
-    let h = and_parts _ (are_cores_apart descs) g.0 in
-    record { sound = (and_parts _ (list_all is_sound descs) h.0).1; extents = g.1; regions = f.1 }
 
 small-sizes : (wiring : Wiring) → are_extents_sound wiring ≡ true → AreSmall wiring.sizes
 unfolding are_extents_sound
@@ -55,6 +40,10 @@ regions-there descs wiring (region ∷ regions) e =
     and_from (has_at wiring.sizes region.extent region.size) (have_extents wiring.sizes regions) (region-there descs wiring region both.0) (regions-there descs wiring regions both.1)
 
 -- ---- the one partition
+
+pub joined_one : DescribedAreJoined → (config : Config) → IsAccepted config → (desc : Desc) → AreDescribed config config.parts (desc ∷ []) → (wiring : Wiring) → wiring ≡ wiring_of config
+    → AreJoined (desc ∷ []) wiring
+joined_one joined config accepted desc are wiring is = subst (λ (wiring : Wiring). AreJoined (desc ∷ []) wiring) (sym is) (joined config accepted (desc ∷ []) are)
 
 pub sound_one : (desc : Desc) (wiring : Wiring) → AreJoined (desc ∷ []) wiring → IsSound desc
 sound_one desc wiring e = (and_parts (is_sound desc) true (joins (desc ∷ []) wiring e).sound).0
