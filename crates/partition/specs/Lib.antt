@@ -6,6 +6,7 @@ pub mod Act
 pub mod Interrupts
 pub mod Machine
 pub mod Step
+pub mod Trail
 pub mod Event
 pub mod Lending
 pub mod Calling
