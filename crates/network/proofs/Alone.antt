@@ -12,8 +12,9 @@ use Rattle.machine_desc.specs.declared.desc.Region.{Region}
 use Rattle.machine_desc.specs.Ranges.{ranges_meet}
 use Rattle.partition.specs.Machine.{Cpu, Machine, fresh}
 use Rattle.partition.specs.Reached.{Move, moved, after_moves}
+use Rattle.partition.specs.Reservations.{granule_size, is_in_granule, is_stored_to, kept_reservation, with_kept}
 use Rattle.network.specs.Network.{Network, no_desc, desc_at}
-use Rattle.network.specs.Change.{Change, Moves, Shared, Traced, bytes_of, seen, granule_size, is_in_granule, is_stored_to, kept_reservation, with_kept, changed, after_changes, move_in, traced, trace_of, are_private}
+use Rattle.network.specs.Change.{Change, Moves, Shared, Traced, bytes_of, seen, changed, after_changes, move_in, traced, trace_of, are_private}
 use Rattle.network.specs.World.{machine_at, opening_world, changes_of, trace_in}
 use Rattle.network.specs.Turn.{Script, run}
 use Rattle.network.specs.Laws.{FollowsMoves}

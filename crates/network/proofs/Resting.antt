@@ -1,5 +1,5 @@
 -- Where no partition runs and nothing waits, turns pass.
-use Rattle.std.proofs.Common.{◌≡◌, ℕ, zero, suc, ◌+◌, Bool, true, false, cond, ◌&&◌, not, List, [], ◌∷◌, ◌++◌, map, length, take, slice_set, Option, Some, None, refl, sym, ap, subst, ◌∙◌, arith}
+use Rattle.std.proofs.Common.{◌≡◌, ℕ, zero, suc, ◌+◌, ◌<◌, Bool, true, false, cond, ◌&&◌, not, List, [], ◌∷◌, ◌++◌, map, length, take, slice_set, Option, Some, None, refl, sym, ap, subst, ◌∙◌, arith}
 use Rattle.std.specs.Prelude.{min}
 use Rattle.std.specs.List.{list_all}
 use Rattle.std.proofs.lemmas.Bool.{and_parts}
@@ -61,7 +61,7 @@ nothing-enters-at network None console world = refl
 nothing-enters-at network (Some (Console other)) console world = refl
 nothing-enters-at network (Some (Part ref)) console world = nothing-entered network ref (received_room world.machines ref) console world
 
-nothing-enters : (network : Network) (console : ℕ) (bytes : List ℕ) (world : World) → bytes ≡ [] → enter network console bytes world ≡ passed world
+pub nothing-enters : (network : Network) (console : ℕ) (bytes : List ℕ) (world : World) → bytes ≡ [] → enter network console bytes world ≡ passed world
 unfolding enter
 nothing-enters network console bytes world none =
     ap (λ (bytes : List ℕ). entered_at network (far_end network.wiring.links (Console console)) console bytes world) none
@@ -84,8 +84,8 @@ turn-passes network script number world e none =
     ∙ core-rests network (core_in script.schedule number) world e
 
 pub turns_pass : (network : Network) (script : Script) (number more : ℕ) (world : World) → are_at_rest world.machines ≡ true
-    → ((n k : ℕ) → waiting (given_at script n k) world.consoles k ≡ []) → turns_from network script number more world ≡ passed world
+    → ((n k : ℕ) → n < number + more → waiting (given_at script n k) world.consoles k ≡ []) → turns_from network script number more world ≡ passed world
 turns_pass network script number zero world e none = refl
 turns_pass network script number (suc more) world e none =
-    ap (λ (first : Passage). and_then first (turns_from network script (number + 1) more)) (turn-passes network script number world e (none number))
-    ∙ turns_pass network script (number + 1) more world e none
+    ap (λ (first : Passage). and_then first (turns_from network script (number + 1) more)) (turn-passes network script number world e (λ k. none number k (omega arith)))
+    ∙ turns_pass network script (number + 1) more world e (λ n k below. none n k (omega (arith, below)))

@@ -1,16 +1,15 @@
 -- What happens to the machine of one partition, and what it leaves. A partition's own steps and its events are its moves; beside
 -- them a step of another partition may be seen in the areas that both have.
-use Rattle.std.specs.Prelude.{ℕ, ◌+◌, ◌==◌, Bool, not, ◌&&◌, if◌then◌else◌, List, [], ◌∷◌, ◌++◌, map, Option, Some, None}
-use Rattle.std.specs.List.{list_any, list_all}
+use Rattle.std.specs.Prelude.{ℕ, ◌==◌, Bool, if◌then◌else◌, List, [], ◌∷◌, ◌++◌, map}
+use Rattle.std.specs.List.{list_all}
 use Rattle.core_step.specs.declared.answer.Wrote.{Wrote}
-use Rattle.core_step.specs.Step.{with_reserved}
 use Rattle.machine_desc.specs.declared.desc.Region.{Region}
 use Rattle.machine_desc.specs.declared.desc.Desc.{Desc}
-use Rattle.machine_desc.specs.Ranges.{ranges_meet}
 use Rattle.partition.specs.Act.{Act}
-use Rattle.partition.specs.Machine.{Cpu, Machine}
+use Rattle.partition.specs.Machine.{Machine}
 use Rattle.partition.specs.Step.{step}
 use Rattle.partition.specs.Reached.{Move, Steps, Takes, moved}
+use Rattle.partition.specs.Reservations.{with_kept}
 
 pub data Change : Type 0 where
   -- a step of one of its cores, or an event
@@ -30,28 +29,6 @@ abbrev pub seen : List Region → List (List ℕ) → List Region → List (List
 seen regions memory (own ∷ owns) (old ∷ olds) =
     (if own.private then old else bytes_of regions memory own.extent old) ∷ seen regions memory owns olds
 seen regions memory _ olds = olds
-
--- ---- reservations (Power ISA 2.06, Book II)
-
--- the bytes of a reservation granule
-abbrev pub granule_size : ℕ
-granule_size = 64
-
--- what was stored lies in this region, and has a byte of the granule that begins at the logical address
-abbrev pub is_in_granule : ℕ → Wrote → Region → Bool
-is_in_granule granule range region =
-    not region.private && (region.extent == range.extent && ranges_meet granule granule_size (region.logical + range.at) range.len)
-
-abbrev pub is_stored_to : List Region → List Wrote → ℕ → Bool
-is_stored_to regions stored granule = list_any (λ (range : Wrote). list_any (is_in_granule granule range) regions) stored
-
--- a reservation is lost where another stored in its granule
-abbrev pub kept_reservation : List Region → List Wrote → Option ℕ → Option ℕ
-kept_reservation regions stored None = None
-kept_reservation regions stored (Some granule) = if is_stored_to regions stored granule then None else Some granule
-
-abbrev pub with_kept : List Region → List Wrote → Cpu → Cpu
-with_kept regions stored cpu = record cpu { registers = with_reserved (kept_reservation regions stored cpu.registers.reserved) cpu.registers }
 
 -- ---- the machine after a change
 

@@ -7,7 +7,8 @@ use Rattle.machine_desc.specs.declared.desc.Port.TheVariants.{Channel, Send, Rec
 use Rattle.machine_desc.specs.declared.desc.Region.{Region}
 use Rattle.machine_desc.specs.declared.wiring.End.TheVariants.{Part, Console}
 use Rattle.network.specs.Network.{Network, ref_to, receivers_of}
-use Rattle.network.specs.Change.{seen, kept_reservation}
+use Rattle.partition.specs.Reservations.{kept_reservation}
+use Rattle.network.specs.Change.{seen}
 use Rattle.network.specs.Turn.{Script}
 use Rattle.network.specs.Report.{report}
 

@@ -1,5 +1,5 @@
 -- What a partition without shared areas does in the network is what its own moves come to.
-use Rattle.std.specs.Prelude.{◌≡◌, ℕ, ◌<◌, ◌==◌, Bool, true, ◌&&◌, ◌||◌, not, List, [], length, codes, bytes_eq}
+use Rattle.std.specs.Prelude.{◌≡◌, ℕ, ◌+◌, ◌<◌, ◌==◌, Bool, true, ◌&&◌, ◌||◌, not, List, [], length, codes, bytes_eq}
 use Rattle.std.specs.List.{list_all}
 use Rattle.core_step.specs.declared.answer.Wrote.{Wrote}
 use Rattle.machine_desc.specs.declared.act.Act.{Act as Told}
@@ -85,8 +85,8 @@ is_at_rest machine = not (is_running machine.inner.state)
 abbrev pub are_at_rest : List Machine → Bool
 are_at_rest machines = list_all is_at_rest machines
 
--- Where no partition runs and no console is given anything that doesn't enter, however late, every further turn passes.
+-- Where no partition runs and no console is given anything up to the last of these turns that doesn't enter, each of them passes.
 abbrev pub RestingNetworksStay : Type 0
 RestingNetworksStay =
     (network : Network) (script : Script) (number more : ℕ) (world : World) → are_at_rest world.machines ≡ true
-    → ((later console : ℕ) → waiting (given_at script later console) world.consoles console ≡ []) → turns_from network script number more world ≡ passed world
+    → ((later console : ℕ) → later < number + more → waiting (given_at script later console) world.consoles console ≡ []) → turns_from network script number more world ≡ passed world

@@ -15,7 +15,7 @@ pub fn lines_are_of_own_moves()
     ensures { LinesAreOwn }
 {}
 
-/// Where no partition runs and nothing waits that could enter, every further turn passes.
+/// Where no partition runs and nothing waits that could enter, so many further turns pass.
 pub fn resting_networks_stay()
     ensures { RestingNetworksStay }
 {}

@@ -1,12 +1,12 @@
 -- The numbers of sources, and the sets of those that are up.
-use Rattle.std.proofs.Common.{◌≡◌, ℕ, zero, suc, ◌+◌, ◌-◌, ◌*◌, ◌/◌, ◌%◌, ◌^◌, ◌<◌, ◌≤◌, ◌==◌, max, Bool, true, false, cond, ◌&&◌, bit_or, List, [], ◌∷◌, length, drop, drop-cons, option_map, pow-suc, slice_index_or, Option, Some, None, slice_get, refl, sym, ap, subst, ◌∙◌, arith}
+use Rattle.std.proofs.Common.{◌≡◌, ℕ, zero, suc, ◌+◌, ◌-◌, ◌*◌, ◌<◌, ◌≤◌, ◌==◌, max, Bool, true, false, cond, ◌&&◌, bit_or, List, [], ◌∷◌, length, drop, drop-cons, option_map, slice_index_or, Option, Some, None, slice_get, refl, sym, ap, subst, ◌∙◌, arith}
 use Rattle.std.specs.Int.{bit_at}
 use Rattle.std.specs.List.{flat_map}
 use Rattle.std.proofs.lemmas.Bool.{and_parts, eqb-true, leb-true}
 use Rattle.std.proofs.lemmas.Option.{slice_get-map, slice_get_within, slice_get-get_or, get_or_from_slice_get}
 use Rattle.std.proofs.lemmas.Bool.Decides.{nat_tests}
-use Rattle.std.proofs.lemmas.List.{length-append, drop_all}
-use Rattle.std.proofs.lemmas.Nat.Bits.{bit_at_lowest, bit_at-suc, bit_at-zero, bit_at_or}
+use Rattle.std.proofs.lemmas.List.{length-append}
+use Rattle.std.proofs.lemmas.Nat.Bits.{bit_at-zero, bit_at_or, same_from_bits}
 use Rattle.machine_desc.specs.declared.desc.Desc.{Desc}
 use Rattle.machine_desc.specs.declared.desc.Port.{Port}
 use Rattle.machine_desc.specs.declared.desc.Port.TheVariants as described
@@ -19,59 +19,28 @@ use Rattle.partition.specs.Interrupts.{interrupt_count, level_of, levels_from, b
 
 -- ---- sets are unions in any order
 
-same_number : (k a b : ℕ) → a < 2 ^ k → b < 2 ^ k → ((i : ℕ) → bit_at a i ≡ bit_at b i) → a ≡ b
-same_number zero a b small few bits = omega arith
-same_number (suc k) a b small few bits =
-    let lowest : a % 2 ≡ b % 2 = sym (bit_at_lowest a) ∙ bits 0 ∙ bit_at_lowest b in
-    let halves : a / 2 ≡ b / 2 =
-    same_number k (a / 2) (b / 2) (omega (arith, small, pow-suc 2 k)) (omega (arith, few, pow-suc 2 k)) (λ i. sym (bit_at-suc a i) ∙ bits (suc i) ∙ bit_at-suc b i) in
-    omega (arith, lowest, halves)
-
-below_pow : (n : ℕ) → n < 2 ^ n
-below_pow zero = omega arith
-below_pow (suc n) = omega (arith, below_pow n, pow-suc 2 n)
-
-pow_rises : (j k : ℕ) → 2 ^ j ≤ 2 ^ (k + j)
-pow_rises j zero = let e : 0 + j ≡ j = omega arith in omega (arith, ap (λ n. 2 ^ n) e)
-pow_rises j (suc k) = let e : suc k + j ≡ suc (k + j) = omega arith in omega (arith, pow_rises j k, pow-suc 2 (k + j), ap (λ n. 2 ^ n) e)
-
-same_bits : (a b : ℕ) → ((i : ℕ) → bit_at a i ≡ bit_at b i) → a ≡ b
-same_bits a b bits =
-    let e : a + b ≡ b + a = omega arith in
-    same_number (a + b) a b (omega (arith, below_pow a, pow_rises a b, ap (λ n. 2 ^ n) e)) (omega (arith, below_pow b, pow_rises b a)) bits
-
 max_along : (x y z : ℕ) → max (max x y) z ≡ max x (max y z)
 max_along x y z = omega arith
 
 pub union_along : (a b c : ℕ) → bit_or (bit_or a b) c ≡ bit_or a (bit_or b c)
-union_along a b c = same_bits (bit_or (bit_or a b) c) (bit_or a (bit_or b c)) (λ i.
+union_along a b c = same_from_bits (bit_or (bit_or a b) c) (bit_or a (bit_or b c)) (λ i.
     bit_at_or (bit_or a b) c i ∙ ap (λ x. max x (bit_at c i)) (bit_at_or a b i) ∙ max_along (bit_at a i) (bit_at b i) (bit_at c i)
     ∙ sym (ap (λ x. max (bit_at a i) x) (bit_at_or b c i)) ∙ sym (bit_at_or a (bit_or b c) i))
 
 pub union_none : (a : ℕ) → bit_or a 0 ≡ a
-union_none a = same_bits (bit_or a 0) a (λ i. bit_at_or a 0 i ∙ ap (λ x. max (bit_at a i) x) (bit_at-zero i) ∙ omega arith)
+union_none a = same_from_bits (bit_or a 0) a (λ i. bit_at_or a 0 i ∙ ap (λ x. max (bit_at a i) x) (bit_at-zero i) ∙ omega arith)
 
 pub none_union : (a : ℕ) → bit_or 0 a ≡ a
-none_union a = same_bits (bit_or 0 a) a (λ i. bit_at_or 0 a i ∙ ap (λ x. max x (bit_at a i)) (bit_at-zero i) ∙ omega arith)
+none_union a = same_from_bits (bit_or 0 a) a (λ i. bit_at_or 0 a i ∙ ap (λ x. max x (bit_at a i)) (bit_at-zero i) ∙ omega arith)
 
 -- ---- the levels of one handle more
 
-from_drop : (handle i : ℕ) (ports : List Port) (ends : List End) (d : Port) → i < length ports
+pub from_drop : (handle i : ℕ) (ports : List Port) (ends : List End) (d : Port) → i < length ports
     → levels_from handle (drop i ports) ends ≡ bit_or (level_of (slice_index_or ports i d) (end_at ends handle)) (levels_from (handle + 1) (drop (i + 1) ports) ends)
 from_drop handle i ports ends d within =
     let e : suc i ≡ i + 1 = omega arith in
     ap (λ ps. levels_from handle ps ends) (drop-cons ports i d within)
     ∙ ap (λ k. bit_or (level_of (slice_index_or ports i d) (end_at ends handle)) (levels_from (handle + 1) (drop k ports) ends)) e
-
-pub levels_next : (up level i : ℕ) (ports : List Port) (ends : List End) (d : Port) → i < length ports → level ≡ level_of (slice_index_or ports i d) (end_at ends (i + 1))
-    → bit_or (bit_or up level) (levels_from (i + 1 + 1) (drop (i + 1) ports) ends) ≡ bit_or up (levels_from (i + 1) (drop i ports) ends)
-levels_next up level i ports ends d within is =
-    union_along up level (levels_from (i + 1 + 1) (drop (i + 1) ports) ends)
-    ∙ ap (λ l. bit_or up (bit_or l (levels_from (i + 1 + 1) (drop (i + 1) ports) ends))) is
-    ∙ ap (bit_or up) (sym (from_drop (i + 1) i ports ends d within))
-
-pub levels_end : (up i : ℕ) (ports : List Port) (ends : List End) → length ports ≤ i → bit_or up (levels_from (i + 1) (drop i ports) ends) ≡ up
-levels_end up i ports ends past = ap (λ ps. bit_or up (levels_from (i + 1) ps ends)) (drop_all i ports past) ∙ union_none up
 
 -- the kind of a handle
 pub kind_here : (ports : List Port) (i : ℕ) (d : Port) → i < length ports → kind_at (kinds_of ports) (i + 1) ≡ Some (kind_of (slice_index_or ports i d))
@@ -91,17 +60,17 @@ most_numbers (described.Send ∷ ports) = omega (arith, most_numbers ports)
 most_numbers (described.Receive irq ∷ ports) = omega (arith, most_numbers ports)
 most_numbers (described.Manage part held private ∷ ports) = omega (arith, most_numbers ports)
 
-record CountsOn (next : ℕ) (port : Port) (ports : List Port) : Type 0 where
-  first : counts_up next (interrupts_of port) ≡ true
-  rest : counts_up (next + length (interrupts_of port)) (flat_map interrupts_of ports) ≡ true
+pub record CountsOn (next : ℕ) (port : Port) (ports : List Port) : Type 0 where
+  pub first : counts_up next (interrupts_of port) ≡ true
+  pub rest : counts_up (next + length (interrupts_of port)) (flat_map interrupts_of ports) ≡ true
 
-counts_on : (next : ℕ) (port : Port) (ports : List Port) → counts_up next (flat_map interrupts_of (port ∷ ports)) ≡ true → CountsOn next port ports
+pub counts_on : (next : ℕ) (port : Port) (ports : List Port) → counts_up next (flat_map interrupts_of (port ∷ ports)) ≡ true → CountsOn next port ports
 counts_on next port ports h =
     let parts = and_parts (counts_up next (interrupts_of port)) (counts_up (next + length (interrupts_of port)) (flat_map interrupts_of ports))
     (sym (counts_up_along next (interrupts_of port) (flat_map interrupts_of ports)) ∙ h) in
     record { first = parts.0; rest = parts.1 }
 
-here : (next most : ℕ) (port : Port) → counts_up next (interrupts_of port) ≡ true → next + length (interrupts_of port) ≤ most → HasNumbersBelow most port
+pub here : (next most : ℕ) (port : Port) → counts_up next (interrupts_of port) ≡ true → next + length (interrupts_of port) ≤ most → HasNumbersBelow most port
 here next most (described.Channel rx tx) h fits =
     let parts = and_parts (rx == next) (tx == next + 1 && true) h in
     let later = and_parts (tx == next + 1) true parts.1 in
@@ -127,7 +96,7 @@ few_ports desc sound = leb-true (length desc.ports) 64 (and_parts _ _ (and_parts
 pub few_interrupts : (desc : Desc) → IsSound desc → interrupt_count desc.ports ≤ 128
 few_interrupts desc sound = omega (arith, most_numbers desc.ports, few_ports desc sound)
 
-counted : (desc : Desc) → IsSound desc → counts_up 0 (flat_map interrupts_of desc.ports) ≡ true
+pub counted : (desc : Desc) → IsSound desc → counts_up 0 (flat_map interrupts_of desc.ports) ≡ true
 unfolding are_numbered
 counted desc sound = (sound_parts desc sound).numbered
 

@@ -1,5 +1,6 @@
 pub mod Lent
 pub mod Levels
+pub mod Among
 pub mod Latched
 pub mod Areas
 pub mod Backed
@@ -11,3 +12,5 @@ pub mod Reached
 pub mod Ends
 pub mod Zeros
 pub mod Taking
+pub mod Written
+pub mod Possible

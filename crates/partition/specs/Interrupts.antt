@@ -1,7 +1,8 @@
 -- Interrupts of a partition: which sources are up, when the external line is, and the hypercalls of the interrupt controller and of
 -- doorbells (ePAPR 1.1, chapter 7), from registers and controller to a reply and a controller.
-use Rattle.std.specs.Prelude.{ℕ, ◌<◌, ◌+◌, ◌-◌, ◌^◌, ◌==◌, Bool, true, false, nat_lt, List, [], ◌∷◌, length, Option, None, Some, slice_get, bit_or, is_some, if◌then◌else◌}
+use Rattle.std.specs.Prelude.{ℕ, ◌<◌, ◌+◌, ◌-◌, ◌/◌, ◌^◌, ◌==◌, Bool, true, false, nat_lt, List, [], ◌∷◌, length, Option, None, Some, slice_get, bit_or, is_some, if◌then◌else◌}
 use Rattle.std.specs.List.{flat_map}
+use Rattle.std.specs.Int.{w128, trailing_zeros}
 use Rattle.guest_regs.specs.Registers.{Registers, gpr_of}
 use Rattle.hcall_abi.specs.declared.status.Status.TheVariants.{Success, InvalidArgument}
 use Rattle.hcall_abi.specs.Reply.{Reply}
@@ -10,6 +11,7 @@ use Rattle.machine_desc.specs.declared.desc.Port.{Port}
 use Rattle.machine_desc.specs.declared.desc.Port.TheVariants as described
 use Rattle.machine_desc.specs.Sound.{interrupts_of}
 use Rattle.vpic.specs.declared.source.Source.{Source}
+use Rattle.vpic.specs.Numbers.{without_number}
 use Rattle.vpic.specs.Controller.{Controller, is_number}
 use Rattle.vpic.specs.Choice.{chosen}
 use Rattle.vpic.specs.Calls.{taken, is_in_service, ended, may_configure, configured, with_mask, mask_of, may_set_task, with_task, rung}
@@ -163,6 +165,16 @@ unfoldable pub get_task_priority : Controller → Ruled
 get_task_priority interrupts = done (interrupts.task ∷ []) interrupts
 
 -- ---- what the code knows of them
+
+-- a set of numbers without those of a handle
+abbrev pub without_those_of : Port → ℕ → ℕ
+without_those_of (described.Channel rx tx) numbers = without_number (without_number numbers rx) tx
+without_those_of (described.Receive irq) numbers = without_number numbers irq
+without_those_of _ numbers = numbers
+
+-- Of the first handles each has at most two numbers: so the handle of the lowest of these numbers is at this place or behind it.
+abbrev pub lowest_place : ℕ → ℕ
+lowest_place numbers = trailing_zeros w128 numbers / 2
 
 -- the interrupts of a handle are below this number
 abbrev pub HasNumbersBelow : ℕ → Port → Type 0

@@ -12,5 +12,6 @@ pub mod Lending
 pub mod Calling
 pub mod Refusal
 pub mod Reached
+pub mod Reservations
 pub mod MemPorts
 pub mod Loading

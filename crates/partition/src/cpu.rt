@@ -18,6 +18,7 @@ ghost use Rattle.partition.specs.Act as spec_act;
 ghost use Rattle.partition.specs.Act.{act_of};
 ghost use Rattle.partition.specs.Interrupts.{granted, levels};
 ghost use Rattle.partition.specs.Machine.{booted, shape_of};
+ghost use Rattle.partition.specs.Reservations.{with_kept};
 ghost use Rattle.partition.specs.Step as spec;
 ghost use Rattle.partition.specs.Lending.{IsCoreStepped, IsLent, KeepsUnbuilt};
 
@@ -27,18 +28,19 @@ use crate::clock::{Clocks, begin, is_pending, pending};
 use crate::found::{Found, View, find};
 use crate::interrupts::{
     acknowledge, doorbell_send, end_of_interrupt, get_config, get_mask, get_task_priority,
-    is_line_up, levels, set_config, set_mask, set_task_priority,
+    is_line_up, set_config, set_mask, set_task_priority,
 };
 use crate::ports::Ports;
+use crate::reservations::is_stored_to;
 use crate::served::Served;
 use arrayvec::ArrayVec;
-use core_step::{Core, Hw};
+use core_step::{Core, Hw, Wrote};
 use ground::Ground;
 use guest_regs::{boot, order_syndrome, store_syndrome};
 use guest_tlb::GuestTlb;
 use hcall_abi::{Call, Reply, Status, set_reply};
 use insn::Insn;
-use machine_desc::{Act, Desc};
+use machine_desc::{Act, Desc, Region};
 use outside::NoMemory;
 use std::alloc::Global;
 use std::marker::Model;
@@ -78,6 +80,17 @@ impl Cpu {
                 nv: 0,
             },
         })
+    }
+
+    /// Another partition stored in these ranges of shared extents, which ends a reservation of theirs.
+    pub fn written(&mut self, regions: &[Region], stored: &[Wrote])
+        ensures { self.new ≡ with_kept regions.now stored.now self.old }
+    {
+        if let Some(granule) = self.core.regs().reserved() {
+            if is_stored_to(regions, stored, granule) {
+                self.core.regs_mut().set_reserved(None);
+            }
+        }
     }
 
     /// The core that does its instructions.
@@ -367,7 +380,7 @@ impl Cpu {
             Call::GetConfig => get_config(vpic, regs),
             Call::SetMask => set_mask(vpic, regs),
             Call::GetMask => get_mask(vpic, regs),
-            Call::Iack => acknowledge(vpic, levels(desc, ports)),
+            Call::Iack => acknowledge(vpic, desc, ports),
             Call::Eoi => end_of_interrupt(vpic, regs),
             Call::SetTaskPriority => set_task_priority(vpic, regs),
             Call::GetTaskPriority => get_task_priority(vpic),

@@ -1,7 +1,7 @@
 //! Interrupts of a partition: which sources are up, the line from the controller to the core, and the hypercalls of the
 //! controller and of doorbells (ePAPR 1.1, chapter 7).
 
-ghost use Rattle.std.specs.Prelude.{◌≡◌, ◌<◌, ◌≤◌, Some};
+ghost use Rattle.std.specs.Prelude.{◌≡◌, ◌<◌, ◌≤◌, Some, max, bit_and};
 ghost use Rattle.hcall_abi.specs.Reply.{reply_of};
 ghost use Rattle.machine_desc.specs.Sound.{IsSound};
 ghost use Rattle.partition.specs.Port.{kinds_of, kind_of, kind_at, end_at};
@@ -16,7 +16,7 @@ use crate::served::Served;
 use guest_regs::Regs;
 use hcall_abi::{Reply, Status};
 use machine_desc::{Act, Desc, Port};
-use vpic::Vpic;
+use vpic::{Vpic, has, without_number};
 
 /// What r4 tells where no source is chosen.
 const NO_NUMBER: u32 = 0xFFFF;
@@ -56,35 +56,62 @@ fn only_if(up: bool, n: u8) -> u128
     if up { 1 << n } else { 0 }
 }
 
-/// The numbers of a handle that are up by their levels.
-fn level_of<P: Ports>(port: &Port, handle: u32, ports: &P) -> u128
+/// The numbers of a handle that are among these and up by their levels. The port is asked of no other.
+#[tactic(auto, using(crate::proofs::Among::channel_among))]
+fn level_among<P: Ports>(numbers: u128, port: &Port, handle: u32, ports: &P) -> u128
     requires kind { kind_at (P.kinds ports.now) handle ≡ Some (kind_of port.now) }
     requires small { spec.HasNumbersBelow 128 port.now }
-    ensures { result ≡ spec.level_of port.now (end_at (P.seen ports.now) handle) }
+    ensures { result ≡ bit_and (spec.level_of port.now (end_at (P.seen ports.now) handle)) numbers }
 {
     match port {
         Port::Channel { rx, tx } => {
-            only_if(ports.waiting(handle) > 0, *rx) | only_if(ports.room(handle) > 0, *tx)
+            only_if(has(numbers, *rx) && ports.waiting(handle) > 0, *rx)
+                | only_if(has(numbers, *tx) && ports.room(handle) > 0, *tx)
         }
         Port::Send | Port::Receive { .. } | Port::Manage { .. } => 0,
     }
 }
 
-/// The numbers of all handles that are up by their levels.
+/// These numbers without those of a handle.
+fn without_those_of(port: &Port, numbers: u128) -> u128
+    requires { spec.HasNumbersBelow 128 port.now }
+    ensures { result ≡ spec.without_those_of port.now numbers }
+{
+    match port {
+        Port::Channel { rx, tx } => without_number(without_number(numbers, *rx), *tx),
+        Port::Receive { irq } => without_number(numbers, *irq),
+        Port::Send | Port::Manage { .. } => numbers,
+    }
+}
+
+/// The first place from this one on where the handle of one of these numbers may stand.
+fn next_place(numbers: u128, place: usize) -> usize
+    ensures { result ≡ max place (spec.lowest_place numbers) }
+{
+    place.max(numbers.trailing_zeros() as usize / 2)
+}
+
+/// The numbers that are among these and up by their levels. Handles that have none of them are passed over.
 #[tactic(auto, unfolding(crate::specs::Interrupts::levels))]
-pub fn levels<P: Ports>(desc: &Desc, ports: &P) -> u128
+fn levels_among<P: Ports>(numbers: u128, desc: &Desc, ports: &P) -> u128
     requires sound { IsSound desc.now }
     requires kinds { P.kinds ports.now ≡ kinds_of desc.now.ports }
-    ensures { result ≡ spec.levels desc.now.ports (P.seen ports.now) }
+    ensures { result ≡ bit_and (spec.levels desc.now.ports (P.seen ports.now)) numbers }
 {
+    let handles = desc.ports.as_slice();
     let mut levels = 0u128;
-    for (i, port) in desc.ports.as_slice().iter().enumerate() {
-        levels |= level_of(port, i as u32 + 1, ports);
+    let mut left = numbers;
+    let mut place = next_place(left, 0);
+    while place < handles.len() {
+        let port = &handles[place];
+        levels |= level_among(left, port, place as u32 + 1, ports);
+        left = without_those_of(port, left);
+        place = next_place(left, place + 1);
     }
     levels
 }
 
-/// Whether the line from the controller to the core is up. Where every source is masked no level is looked at.
+/// Whether the line from the controller to the core is up. No level of a masked source is looked at.
 #[tactic(auto, unfolding(crate::specs::Interrupts::is_line_up))]
 pub fn is_line_up<P: Ports>(desc: &Desc, vpic: &Vpic, ports: &P) -> bool
     requires sound { IsSound desc.now }
@@ -94,7 +121,8 @@ pub fn is_line_up<P: Ports>(desc: &Desc, vpic: &Vpic, ports: &P) -> bool
     if vpic.are_all_masked() {
         return false;
     }
-    vpic.line(levels(desc, ports)).is_some()
+    let levels = levels_among(vpic.unmasked(), desc, ports);
+    vpic.line(levels).is_some()
 }
 
 // ---- doorbells
@@ -185,9 +213,12 @@ pub fn get_mask(vpic: &Vpic, regs: &Regs) -> Reply
 
 /// Takes the source that is chosen into service, and tells its number. It reads no register.
 #[tactic(auto, unfolding(crate::specs::Interrupts::acknowledge))]
-pub fn acknowledge(vpic: &mut Vpic, levels: u128) -> Reply
-    ensures { spec.acknowledge levels vpic.old ≡ record { reply = reply_of result; interrupts = vpic.new } }
+pub fn acknowledge<P: Ports>(vpic: &mut Vpic, desc: &Desc, ports: &P) -> Reply
+    requires sound { IsSound desc.now }
+    requires kinds { P.kinds ports.now ≡ kinds_of desc.now.ports }
+    ensures { spec.acknowledge (spec.levels desc.now.ports (P.seen ports.now)) vpic.old ≡ record { reply = reply_of result; interrupts = vpic.new } }
 {
+    let levels = levels_among(vpic.unmasked(), desc, ports);
     let number = match vpic.iack(levels) {
         Some(number) => u32::from(number),
         None => NO_NUMBER,

@@ -28,21 +28,14 @@ mod mem_end;
 mod mem_ports;
 mod partition;
 mod ports;
+mod reservations;
 mod served;
 
 pub use acts::Acts;
+pub use handles::kind_at;
 pub use kind::Kind;
 pub use laws::{interrupts_stay_sound, refusals_are_quiet, translations_stay_sound};
 pub use lone_machine::LoneMachine;
 pub use mem_ports::MemPorts;
 pub use partition::Partition;
 pub use ports::Ports;
-
-#[cfg(test)]
-mod drafts;
-#[cfg(test)]
-mod guest_tests;
-#[cfg(test)]
-mod images;
-#[cfg(test)]
-mod tests;

@@ -1,6 +1,6 @@
 //! A lone machine: a partition with real memory of its own and with ports in memory.
 
-ghost use Rattle.std.specs.Prelude.{◌≡◌, ℕ, ◌+◌, ◌<◌, ◌≤◌, ◌↔◌, true, List, Some, length, IfOk, IfSome};
+ghost use Rattle.std.specs.Prelude.{◌≡◌, ℕ, ◌+◌, ◌<◌, ◌≤◌, ◌↔◌, true, List, Some, length, map, IfOk, IfSome};
 ghost use Rattle.std.specs.List.{list_all};
 ghost use Rattle.ground.specs.Extents.{AreSmall};
 ghost use Rattle.machine_desc.specs.Sound.{IsSound};
@@ -10,6 +10,7 @@ ghost use Rattle.partition.specs.Act.{act_of, ports_after, state_after, steps_af
 ghost use Rattle.partition.specs.Machine.{most_steps, fresh, shape_of, core_at, place_in};
 ghost use Rattle.partition.specs.Calling.{IsUnbuilt};
 ghost use Rattle.partition.specs.Event.{Room, Bytes, Ring, apply};
+ghost use Rattle.partition.specs.Reservations.{with_kept};
 ghost use Rattle.partition.specs.Step as spec;
 ghost use Rattle.partition.specs.Lending.{HasBytes, HasHandle, IsOutstanding, IsStepped, KeepsUnbuilt};
 ghost use Rattle.partition.specs.Loading.{have_extents};
@@ -19,7 +20,7 @@ use crate::kind::Kind;
 use crate::mem_ports::MemPorts;
 use crate::partition::Partition;
 use crate::ports::Ports;
-use core_step::Core;
+use core_step::{Core, Wrote};
 use fresh_load::load;
 use ground::Ground;
 use machine_desc::{Act, Desc, State};
@@ -143,6 +144,17 @@ impl LoneMachine {
         ensures { self.new ≡ record self.old { machine = apply self.old.desc self.old.machine (Ring h) } }
     {
         self.part.ring(h);
+    }
+
+    /// Another partition stored in these ranges of shared extents: a reservation whose granule has a byte of them is lost.
+    pub fn written(&mut self, stored: &[Wrote])
+        ensures { self.new ≡ record self.old {
+          machine = record self.old.machine {
+            inner = record self.old.machine.inner { cores = map (with_kept self.old.desc.regions stored.now) self.old.machine.inner.cores };
+          };
+        } }
+    {
+        self.part.written(stored);
     }
 
     /// How many received bytes wait on a channel.

@@ -1,26 +1,26 @@
 //! A partition: its machine but for its memory and for the ends of its channels, which it is lent.
 
-ghost use Rattle.std.specs.Prelude.{◌≡◌, ℕ, ◌<◌, ◌≤◌, ◌↔◌, List, Some, length, slice_set, IfOk, IfSome};
+ghost use Rattle.std.specs.Prelude.{◌≡◌, ℕ, ◌<◌, ◌≤◌, ◌↔◌, List, length, map, slice_set, IfOk, IfSome};
 ghost use Rattle.ground.specs.Own.{own_of, KeepsForeign};
 ghost use Rattle.core_step.specs.Access.{SameSizes};
 ghost use Rattle.machine_desc.specs.Sound.{IsSound};
 ghost use Rattle.fresh_load.specs.Placed.{ArePlaced, extents_of};
-ghost use Rattle.partition.specs.Port.{End, kinds_of, kind_at};
+ghost use Rattle.partition.specs.Port.{End, kinds_of};
 ghost use Rattle.partition.specs.Act.{act_of, ports_after, state_after, steps_after};
 ghost use Rattle.partition.specs.Machine.{most_steps, fresh_inner, shape_of, core_at, place_in};
 ghost use Rattle.partition.specs.Calling.{IsUnbuilt};
 ghost use Rattle.partition.specs.Event.{Ring, apply};
+ghost use Rattle.partition.specs.Reservations.{with_kept};
 ghost use Rattle.partition.specs.Step as spec;
 ghost use Rattle.partition.specs.Lending.{Part, machine_of, Did, HasBytes, HasHandle, IsCoreStepped, IsStepped, KeepsUnbuilt};
 
 use crate::acts::Acts;
 use crate::cpu::Cpu;
 use crate::interrupts::{bell_at, interrupt_count};
-use crate::kind::Kind;
 use crate::ports::Ports;
-use core_step::Core;
+use core_step::{Core, Wrote};
 use ground::Ground;
-use machine_desc::{Act, Desc, State};
+use machine_desc::{Act, Desc, Region, State};
 use outside::NoMemory;
 use std::alloc::Global;
 use std::marker::Model;
@@ -155,16 +155,24 @@ impl Partition {
         acts
     }
 
-    /// The doorbell rings that a handle receives.
+    /// The doorbell rings that a handle receives, and nothing happens where it receives none.
     #[tactic(auto, unfolding(crate::specs::Event::apply))]
     pub fn ring(&mut self, h: u32)
-        requires { kind_at (kinds_of self.old.desc.ports) h ≡ Some Kind.Receive }
         ensures desc { self.new.desc ≡ self.old.desc }
         ensures rung { (ends : List End) (memory : List (List ℕ)) → machine_of self.new ends memory ≡ apply self.old.desc (machine_of self.old ends memory) (Ring h) }
     {
         if let Some(irq) = bell_at(self.desc.ports.as_slice(), h) {
             self.vpic.ring(irq);
         }
+    }
+
+    /// Another partition stored in these ranges of shared extents: a reservation whose granule has a byte of them is lost.
+    pub fn written(&mut self, stored: &[Wrote])
+        ensures { self.new ≡ record self.old {
+          inner = record self.old.inner { cores = map (with_kept self.old.desc.regions stored.now) self.old.inner.cores };
+        } }
+    {
+        written_all(&mut self.cores, self.desc.regions.as_slice(), stored);
     }
 
     /// Does what the step is for its core.
@@ -218,6 +226,16 @@ impl Partition {
             }
             _ => self.steps += 1,
         }
+    }
+}
+
+/// Each core, where another partition stored in these ranges.
+#[tactic(auto, using(crate::proofs::Written::one_more, crate::proofs::Written::all_kept))]
+fn written_all(cores: &mut Vec<Cpu>, regions: &[Region], stored: &[Wrote])
+    ensures { cores.new.items ≡ map (with_kept regions.now stored.now) cores.old.items }
+{
+    for core in 0..cores.len() {
+        cores[core].written(regions, stored);
     }
 }
 

@@ -54,7 +54,7 @@ best_of eligible priority zero = None
 best_of eligible priority (suc k) = cond (eligible k && goes_before priority (best_of eligible priority k) k) (Some k) (best_of eligible priority k)
 
 -- there is a best one of any numbers
-is_best : (eligible : ℕ → Bool) (priority : ℕ → ℕ) (count : ℕ) → IsBest eligible priority count (best_of eligible priority count)
+pub is_best : (eligible : ℕ → Bool) (priority : ℕ → ℕ) (count : ℕ) → IsBest eligible priority count (best_of eligible priority count)
 unfolding IsBest best_of
 is_best eligible priority zero = λ m small. absurd (omega (arith, small))
 is_best eligible priority (suc k) =

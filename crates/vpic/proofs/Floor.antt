@@ -1,5 +1,5 @@
 -- The highest priority that holds others back.
-use Rattle.std.proofs.Common.{◌≡◌, ℕ, ◌+◌, max, Bool, true, false, not, ◌&&◌, ◌||◌, cond, nat_lt, length, refl, ap, sym, ◌∙◌, arith}
+use Rattle.std.proofs.Common.{◌≡◌, ℕ, zero, suc, ◌+◌, ◌-◌, ◌<◌, ◌≤◌, max, Bool, true, false, not, ◌&&◌, ◌||◌, cond, nat_lt, length, refl, ap, sym, subst, ◌∙◌, arith}
 use Rattle.std.specs.List.{range_with_len, list_all}
 use Rattle.vpic.specs.Numbers.{has}
 use Rattle.vpic.specs.Controller.{Controller, priority_of}
@@ -47,3 +47,22 @@ one_more controller n floor h priority =
 pub all_sources : (controller : Controller) (count floor : ℕ) → count ≡ length controller.sources → IsFloorOf controller count floor → IsFloor controller floor
 unfolding IsFloorOf is_above_all
 all_sources controller count floor e h priority = h priority ∙ ap (λ k. nat_lt controller.task priority && list_all (is_above controller priority) (range_with_len 0 k)) e
+
+-- numbers that aren't in service raise nothing
+passed_by : (controller : Controller) (k floor count : ℕ) → ((m : ℕ) → k ≤ m → m < count + k → has controller.in_service m ≡ false) → IsFloorOf controller k floor
+    → IsFloorOf controller (count + k) floor
+passed_by controller k floor zero none h = let e : k ≡ 0 + k = omega arith in subst (λ n. IsFloorOf controller n floor) e h
+passed_by controller k floor (suc count) none h =
+    let before = passed_by controller k floor count (λ m low high. none m low (omega (arith, high))) h in
+    let same : raised controller floor (count + k) ≡ floor =
+    ap (λ b. cond b (max floor (priority_of controller (count + k))) floor) (none (count + k) (omega arith) (omega arith))
+    in
+    let e : count + k + 1 ≡ suc count + k = omega arith in
+    subst (λ n. IsFloorOf controller n floor) e (subst (IsFloorOf controller (count + k + 1)) same (one_more controller (count + k) floor before))
+
+pub passed_over : (controller : Controller) (serving n k floor : ℕ) → serving ≡ controller.in_service → IsFloorOf controller k floor → k ≤ n
+    → ((m : ℕ) → k ≤ m → m < n → has serving m ≡ false) → IsFloorOf controller n floor
+passed_over controller serving n k floor same h order none =
+    let e : n - k + k ≡ n = omega (arith, order) in
+    subst (λ i. IsFloorOf controller i floor) e
+    (passed_by controller k floor (n - k) (λ m low high. sym (ap (λ set. has set m) same) ∙ none m low (omega (arith, high, e))) h)

@@ -1,5 +1,5 @@
 -- The search among those that are ready.
-use Rattle.std.proofs.Common.{◌≡◌, ℕ, ◌+◌, ◌-◌, ◌^◌, ◌<◌, ◌≤◌, ◌==◌, Bool, true, false, not, ◌&&◌, ◌||◌, cond, max, min, bit_and, bit_or, length, Option, Some, None, refl, ap, sym, subst, ◌∙◌, arith}
+use Rattle.std.proofs.Common.{◌≡◌, ℕ, zero, suc, ◌+◌, ◌-◌, ◌^◌, ◌<◌, ◌≤◌, ◌==◌, Bool, true, false, not, ◌&&◌, ◌||◌, cond, max, min, bit_and, bit_or, length, Option, Some, None, refl, ap, sym, subst, ◌∙◌, arith}
 use Rattle.std.specs.Int.{w128, bit_at, bit_not}
 use Rattle.std.proofs.lemmas.Bool.Decides.{nat_tests}
 use Rattle.std.proofs.lemmas.Nat.Bits.{bit_at_or, bit_at_and, bit_at_not, bit_at-lt, bit_at-zero}
@@ -8,7 +8,7 @@ use Rattle.vpic.specs.Controller.{Controller, priority_of}
 use Rattle.vpic.specs.Choice.{is_above_all, is_eligible, chosen}
 use Rattle.vpic.specs.Search.{ready, is_free, exceeds, better}
 use Rattle.vpic.proofs.Best.{IsBest, goes_before, best_more}
-use Rattle.vpic.proofs.Chosen.{best_chosen}
+use Rattle.vpic.proofs.Chosen.{best_chosen, best_of, is_best}
 
 -- ---- ready is up, not masked and not in service
 
@@ -80,6 +80,26 @@ better_more controller set n best new h e =
     in
     subst (IsBest (is_free controller set) (priority_of controller) (n + 1)) (sym same) (best_more (is_free controller set) (priority_of controller) n best h)
 
+-- numbers that aren't ready change nothing
+passed_by : (controller : Controller) (set k count : ℕ) (best : Option ℕ) → ((m : ℕ) → k ≤ m → m < count + k → has set m ≡ false) → IsBestReady controller set k best
+    → IsBestReady controller set (count + k) best
+unfolding IsBestReady better
+passed_by controller set k zero best none h = let e : k ≡ 0 + k = omega arith in subst (λ n. IsBestReady controller set n best) e h
+passed_by controller set k (suc count) best none h =
+    let n = count + k in
+    let before = passed_by controller set k count best (λ m low high. none m low (omega (arith, high))) h in
+    let same : best ≡ better controller set best n =
+    sym (ap (λ b. cond ((b && is_above_all controller (priority_of controller n)) && exceeds controller best n) (Some n) best) (none n (omega arith) (omega arith)))
+    in
+    let e : n + 1 ≡ suc count + k = omega arith in
+    subst (λ i. IsBestReady controller set i best) e (better_more controller set n best best before same)
+
+pub passed_over : (controller : Controller) (set n k : ℕ) (best : Option ℕ) → IsBestReady controller set k best → k ≤ n → ((m : ℕ) → k ≤ m → m < n → has set m ≡ false)
+    → IsBestReady controller set n best
+passed_over controller set n k best h order none =
+    let e : n - k + k ≡ n = omega (arith, order) in
+    subst (λ i. IsBestReady controller set i best) e (passed_by controller set k (n - k) best (λ m low high. none m low (omega (arith, high, e))) h)
+
 -- the best among numbers that are eligible alike
 same_best : (e f : ℕ → Bool) (priority : ℕ → ℕ) (bound : ℕ) (best : Option ℕ) → ((m : ℕ) → m < bound → f m ≡ e m) → IsBest e priority bound best → IsBest f priority bound best
 unfolding IsBest
@@ -119,3 +139,31 @@ masked controller levels n e =
 pub masked_quiet : (controller : Controller) (levels : ℕ) → controller.unmasked ≡ 0 → chosen controller levels ≡ None
 unfolding IsBest
 masked_quiet controller levels e = best_chosen controller levels None (λ m small. masked controller levels m e)
+
+-- the levels of those that are masked change nothing
+cut_test : (l a u : ℕ) (rest : Bool) → l < 2 → u < 2 → (((min l u == 1) || (a == 1)) && ((u == 1) && rest)) ≡ (((l == 1) || (a == 1)) && ((u == 1) && rest))
+cut_test l a u rest e f = rw (and_bits l u e f) (cut_by (l == 1) (a == 1) (u == 1) rest)
+  where
+    cut_by : (l a u rest : Bool) → (((l && u) || a) && (u && rest)) ≡ ((l || a) && (u && rest))
+    cut_by true a true rest = refl
+    cut_by true true false rest = refl
+    cut_by true false false rest = refl
+    cut_by false a u rest = refl
+
+cut_eligible : (controller : Controller) (levels n : ℕ) → is_eligible controller (bit_and levels controller.unmasked) n ≡ is_eligible controller levels n
+unfolding is_eligible
+cut_eligible controller levels n =
+    let u = bit_at controller.unmasked n in
+    let rest = not (has controller.in_service n) && is_above_all controller (priority_of controller n) in
+    ap (λ b. ((b == 1) || has controller.latched n) && ((u == 1) && rest)) (bit_at_and levels controller.unmasked n)
+    ∙ cut_test (bit_at levels n) (bit_at controller.latched n) u rest (bit_at-lt levels n) (bit_at-lt controller.unmasked n)
+
+pub unmasked_alone : (controller : Controller) (levels : ℕ) → chosen controller (bit_and levels controller.unmasked) ≡ chosen controller levels
+unmasked_alone controller levels =
+    let cut = bit_and levels controller.unmasked in
+    let priority = priority_of controller in
+    let count = length controller.sources in
+    let best = best_of (is_eligible controller levels) priority count in
+    let all = is_best (is_eligible controller levels) priority count in
+    best_chosen controller cut best (same_best (is_eligible controller levels) (is_eligible controller cut) priority count best (λ m small. cut_eligible controller levels m) all)
+    ∙ sym (best_chosen controller levels best all)

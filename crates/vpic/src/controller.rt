@@ -1,6 +1,6 @@
 //! The controller.
 
-ghost use Rattle.std.specs.Prelude.{◌≡◌, ℕ, ◌^◌, ◌<◌, ◌≤◌, ◌==◌, true, None, Some, IfSome, length, slice_get, if◌then◌else◌};
+ghost use Rattle.std.specs.Prelude.{◌≡◌, ℕ, ◌^◌, ◌<◌, ◌≤◌, ◌==◌, true, None, Some, IfSome, length, slice_get, bit_and, if◌then◌else◌};
 ghost use Rattle.vpic.specs.Numbers.{has};
 ghost use Rattle.vpic.specs.Controller.{Controller, fresh, is_number, priority_of};
 ghost use Rattle.vpic.specs.Choice.{chosen};
@@ -8,7 +8,7 @@ ghost use Rattle.vpic.specs.Calls.{taken, is_in_service, ended, may_configure, c
 ghost use Rattle.vpic.specs.Kept.{IsKept};
 ghost use Rattle.vpic.specs.Search.{IsFloor, raised, ready, is_free, exceeds, better};
 
-use crate::numbers::{has, with_number, without_number};
+use crate::numbers::{has, next_in, with_number, without_number};
 use crate::source::Source;
 use arrayvec::ArrayVec;
 use std::marker::Model;
@@ -104,9 +104,12 @@ impl Vpic {
             return None;
         }
         let floor = self.floor();
+        let count = self.count();
         let mut best = None;
-        for n in 0..self.count() {
+        let mut n = next_in(ready, 0, count);
+        while n < count {
             best = self.better(ready, floor, best, n);
+            n = next_in(ready, n + 1, count);
         }
         best
     }
@@ -118,6 +121,14 @@ impl Vpic {
         ensures quiet { result ≡ true → (levels : ℕ) → chosen self.now levels ≡ None }
     {
         self.unmasked == 0
+    }
+
+    /// The interrupts that aren't masked, as a set. Which one is chosen depends on their levels alone.
+    pub fn unmasked(&self) -> u128
+        ensures numbers { result ≡ self.now.unmasked }
+        ensures alone { (levels : ℕ) → chosen self.now (bit_and levels self.now.unmasked) ≡ chosen self.now levels }
+    {
+        self.unmasked
     }
 
     /// Takes the interrupt that is chosen into service, and clears its latch.
@@ -245,6 +256,13 @@ impl Vpic {
         n < self.sources.len() as u32
     }
 
+    /// The interrupts in service, as a set.
+    fn serving(&self) -> u128
+        ensures { result ≡ self.now.in_service }
+    {
+        self.in_service
+    }
+
     /// Whether a number is one in service.
     fn is_in_service(&self, n: u32) -> bool
         ensures { result ≡ is_in_service self.now n }
@@ -283,13 +301,16 @@ impl Vpic {
     }
 
     /// The highest priority that holds interrupts back.
-    #[tactic(auto, using(crate::proofs::Floor::no_source, crate::proofs::Floor::one_more, crate::proofs::Floor::all_sources))]
     fn floor(&self) -> u32
         ensures { IsFloor self.now result }
     {
+        let count = self.count();
+        let serving = self.serving();
         let mut floor = self.task();
-        for n in 0..self.count() {
+        let mut n = next_in(serving, 0, count);
+        while n < count {
             floor = self.raised(floor, n);
+            n = next_in(serving, n + 1, count);
         }
         floor
     }

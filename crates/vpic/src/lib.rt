@@ -14,6 +14,7 @@ mod source;
 
 pub use controller::Vpic;
 pub use laws::{calls_keep_the_controller, numbers_are_put_and_taken, one_is_chosen};
+pub use numbers::{has, without_number};
 pub use source::Source;
 
 #[cfg(test)]

@@ -1,6 +1,6 @@
 //! Sets of numbers below 128 as the bits of a word.
 
-ghost use Rattle.std.specs.Prelude.{◌≡◌, ◌<◌};
+ghost use Rattle.std.specs.Prelude.{◌≡◌, ℕ, ◌<◌, ◌≤◌, false};
 ghost use Rattle.vpic.specs.Numbers.{has, with_number, without_number};
 
 /// Whether a number is in a set.
@@ -25,4 +25,19 @@ pub fn without_number(set: u128, n: u8) -> u128
     ensures { result ≡ without_number set n }
 {
     set & !(1 << n)
+}
+
+/// The first number of a set from this one on and below the end, or the end.
+pub fn next_in(set: u128, from: u8, end: u8) -> u8
+    requires order { from ≤ end }
+    requires limit { end ≤ 128 }
+    ensures after { from ≤ result }
+    ensures within { result ≤ end }
+    ensures none { (m : ℕ) → from ≤ m → m < result → has set m ≡ false }
+{
+    if from == end {
+        return end;
+    }
+    let zeros = (set >> from).trailing_zeros() as u8;
+    end.min(from + zeros)
 }

@@ -1,5 +1,5 @@
 use Rattle.std.proofs.Common.{◌≡◌, ◌-◌, ◌^◌, min, take, sum}
-use Rattle.partition.proofs.drafts.sum_of.Given as goal
+use Rattle.partition_runs.proofs.drafts.sum_of.Given as goal
 
 abbrev pub invariant-loop-size : goal.invariant-loop-size
 invariant-loop-size l = l.total ≡ min (sum (take l.size-index l.sizes)) (2 ^ 64 - 1)

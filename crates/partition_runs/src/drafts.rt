@@ -1,19 +1,16 @@
 //! Machines in short, and their steps.
 
-ghost use Rattle.std.specs.Prelude.{◌≡◌, ◌-◌, ◌^◌, true, length, min, sum, IfSome};
+ghost use Rattle.std.specs.Prelude.{◌≡◌, ◌-◌, ◌^◌, true, length, min, sum};
 ghost use Rattle.ground.specs.Extents.{AreSmall};
 ghost use Rattle.machine_desc.specs.Joined.{has_at};
 ghost use Rattle.machine_desc.specs.Sound.{IsSound};
-ghost use Rattle.partition.specs.Port.{kinds_of};
 ghost use Rattle.partition.specs.Loading as spec;
-ghost use Rattle.partition.specs.Lending.{HasHandle, IsOutstanding};
 
-use crate::handles::kind_at;
-use crate::{Acts, Kind, LoneMachine};
 use core_step::Wrote;
 use guest_regs::Regs;
 use machine_desc::{Act, Desc, Piece, Port, Region, State, sound};
 use outside::{Bytes, Listed, NoMemory};
+use partition::{Acts, Kind, LoneMachine, kind_at};
 use std::alloc::Global;
 use std::test::Fail;
 
@@ -155,17 +152,22 @@ pub fn machine_of(alloc: Global, draft: &Draft) -> Result<LoneMachine, Fail> {
     )
 }
 
-/// One step of the core, where the machine runs.
-pub fn try_step(machine: &mut LoneMachine) -> Option<Acts>
-    ensures handle { IfSome result (λ acts. HasHandle (kinds_of machine.new.desc.ports) acts.act) }
-    ensures outstanding { IfSome result (λ acts. IsOutstanding acts.act machine.new.machine.ports) }
-{
-    let core = machine.place_of(0)?;
-    if matches!(machine.state(), State::Running) && machine.steps() < LIMIT {
-        Some(machine.step(core))
-    } else {
-        None
+/// One step of the core, where the machine runs. Of the bytes that it sends the other end takes so many at once.
+pub fn step(machine: &mut LoneMachine, most: usize) -> Result<Acts, Fail> {
+    let core = machine.place_of(0).ok_or("there is a core")?;
+    if !matches!(machine.state(), State::Running) || machine.steps() >= LIMIT {
+        return Err("it runs".into());
     }
+    let acts = machine.step(core);
+    if let Act::Sent { h, bytes } = &acts.act {
+        let mut taken = [0; 16];
+        let count = bytes.len().min(most);
+        machine.free(*h, &mut taken[..count]);
+        if taken[..count] != bytes.as_slice()[..count] {
+            return Err("what is taken was sent".into());
+        }
+    }
+    Ok(acts)
 }
 
 /// Rings the doorbell of handle 3, where it is one.
@@ -190,6 +192,14 @@ pub fn try_give(machine: &mut LoneMachine, bytes: &[u8]) -> Option<()> {
     }
 }
 
+/// How many bytes wait on handle 1, where it is a channel.
+pub fn waiting(machine: &LoneMachine) -> Option<u16> {
+    match kind_at(machine.desc().ports.as_slice(), 1) {
+        Some(Kind::Channel) => Some(machine.waiting(1)),
+        _ => None,
+    }
+}
+
 /// The registers of the core.
 pub fn registers_of(machine: &LoneMachine) -> Result<&Regs, Fail> {
     let core = machine.place_of(0).ok_or("there is a core")?;
@@ -204,7 +214,7 @@ pub fn quiet_steps(
 ) -> Result<Vec<Wrote>, Fail> {
     let mut shared = Vec::new(alloc);
     for _ in 0..steps {
-        let acts = try_step(machine).ok_or("it runs")?;
+        let acts = step(machine, 0)?;
         if !matches!(acts.act, Act::None) {
             return Err("the step is quiet".into());
         }

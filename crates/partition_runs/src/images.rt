@@ -645,3 +645,12 @@ pub const BOTH: [u32; 51] = [
     0x7F6C_42A6, // mftb r27
     0x4800_0000, // b 200
 ];
+
+/// Reserves the block at 0x1040, and stores there where the reservation still holds, for good.
+pub const STORES: [u32; 5] = [
+    0x3860_1040, // li r3, 0x1040
+    0x7C80_1828, // lwarx r4, 0, r3
+    0x7CA0_192D, // stwcx. r5, 0, r3
+    0x7CC0_0026, // mfcr r6
+    0x4BFF_FFF0, // b .-16
+];

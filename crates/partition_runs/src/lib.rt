@@ -1,0 +1,18 @@
+//! Runs of a partition's machine that were worked out by hand, as tests: what no clause says of `partition`.
+//!
+//! They stand in a crate of their own, since a crate with tests is proved twice. A run is turns, each with what others and
+//! the guest should see of it.
+#![tactic(auto)]
+
+#[cfg(test)]
+mod courses;
+#[cfg(test)]
+mod drafts;
+#[cfg(test)]
+mod guests;
+#[cfg(test)]
+mod images;
+#[cfg(test)]
+mod tests;
+#[cfg(test)]
+mod turns;

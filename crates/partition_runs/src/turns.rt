@@ -1,0 +1,241 @@
+//! Runs turn by turn: what happens to a machine, and what is seen of it.
+
+use crate::drafts::*;
+use core_step::Wrote;
+use guest_regs::Regs;
+use machine_desc::{Act, State};
+use partition::LoneMachine;
+use std::alloc::{AllocError, Global};
+use std::test::Fail;
+
+/// What happens.
+#[derive(Clone, Copy)]
+pub enum Turn {
+    /// So many steps, of which others see nothing.
+    Quiet(u64),
+    /// So many steps without an act, which write these ranges of shared extents.
+    Shares(u64, &'static [Wrote]),
+    /// A step sends these bytes on handle 1, and the other end takes them.
+    Sends(&'static [u8]),
+    /// A step sends so many bytes there, and the other end takes so many of them.
+    Gives(usize, usize),
+    /// So many times three quiet steps, and one that sends sixteen bytes, of which none is taken.
+    Floods(u32),
+    /// A call by its token and r3 to r6, and the status and the values that it answers.
+    Call(u32, [u32; 4], u32, &'static [u32]),
+    /// A doorbell send on this handle, its status, and the handle whose doorbell then rang.
+    Send(u32, u32, Option<u32>),
+    /// A step that isn't built.
+    NotBuilt,
+    /// A step that ends the machine.
+    Faults,
+    /// The doorbell of handle 3 rings.
+    Ring,
+    /// These bytes come on handle 1.
+    Give(&'static [u8]),
+    /// Another partition stores in this range, by its extent, its offset there and its length.
+    Stored(u32, u32, u32),
+    /// Nothing, but this is seen.
+    See(Seen),
+}
+
+/// What is seen.
+#[derive(Clone, Copy)]
+pub enum Seen {
+    /// These general registers.
+    Registers(&'static [(u8, u32)]),
+    /// The steps, which are the time base too, DEC and the idle flag, where TSR is 0.
+    Clocks(u64, u32, bool),
+    /// The steps, which are the time base too, and the PC.
+    At(u64, u32),
+    /// The steps.
+    Steps(u64),
+    Esr(u32),
+    Msr(u32),
+    Is(State),
+    /// Whether the description says that it begins held.
+    Held(bool),
+    /// How many bytes wait on handle 1.
+    Waits(u16),
+}
+
+/// The token of a doorbell send.
+const DOORBELL_SEND: u32 = 0x1_000E;
+
+/// How many instructions a call takes.
+const CALL_LEN: u64 = 7;
+
+/// The instructions of a call.
+fn call_words(token: u32, args: [u32; 4]) -> [u32; 7] {
+    [
+        0x3D60_0000 | token >> 16, // lis r11, and so on
+        0x616B_0000 | token & 0xFFFF, // ori r11,r11
+        0x3860_0000 | args[0], // li r3
+        0x3880_0000 | args[1], // li r4
+        0x38A0_0000 | args[2], // li r5
+        0x38C0_0000 | args[3], // li r6
+        0x4400_0022, // sc 1
+    ]
+}
+
+/// The image of a guest that makes these calls.
+fn image_of(alloc: Global, turns: &[Turn]) -> Result<Vec<u32>, AllocError> {
+    let mut image = Vec::new(alloc);
+    for turn in turns {
+        match *turn {
+            Turn::Call(token, args, _, _) => {
+                image.extend_from_slice(&call_words(token, args))?;
+            }
+            Turn::Send(handle, _, _) => {
+                image.extend_from_slice(&call_words(DOORBELL_SEND, [handle, 0, 0, 0]))?;
+            }
+            _ => {}
+        }
+    }
+    Ok(image)
+}
+
+/// Whether so many steps write these ranges, and have no act.
+fn shares(
+    alloc: Global,
+    machine: &mut LoneMachine,
+    steps: u64,
+    ranges: &[Wrote],
+) -> Result<bool, Fail> {
+    let told = quiet_steps(alloc, machine, steps)?;
+    Ok(told.as_slice() == ranges)
+}
+
+/// Whether a step sends these bytes, which the other end takes.
+fn sends(machine: &mut LoneMachine, sent: &[u8]) -> Result<bool, Fail> {
+    match step(machine, 16)?.act {
+        Act::Sent { h, bytes } => Ok(h == 1 && bytes.as_slice() == sent),
+        _ => Ok(false),
+    }
+}
+
+/// Whether a step sends so many bytes.
+fn gives(machine: &mut LoneMachine, count: usize, taken: usize) -> Result<bool, Fail> {
+    match step(machine, taken)?.act {
+        Act::Sent { h, bytes } => Ok(h == 1 && bytes.len() == count),
+        _ => Ok(false),
+    }
+}
+
+/// Whether each fourth step sends sixteen bytes.
+fn floods(alloc: Global, machine: &mut LoneMachine, times: u32) -> Result<bool, Fail> {
+    for _ in 0..times {
+        quiet_steps(alloc, machine, 3)?;
+        if !gives(machine, 16, 0)? {
+            return Ok(false);
+        }
+    }
+    Ok(true)
+}
+
+/// The steps of one call, and the handle whose doorbell rang in the last of them.
+fn call(alloc: Global, machine: &mut LoneMachine) -> Result<Option<u32>, Fail> {
+    quiet_steps(alloc, machine, CALL_LEN - 1)?;
+    match step(machine, 0)?.act {
+        Act::None | Act::Took { .. } => Ok(None),
+        Act::Rang { h } => Ok(Some(h)),
+        _ => Err("the call is quiet, or a ring".into()),
+    }
+}
+
+/// Whether r4 to r8 begin with these values.
+fn are_told(regs: &Regs, values: &[u32]) -> bool {
+    let told = [
+        regs.gpr(4),
+        regs.gpr(5),
+        regs.gpr(6),
+        regs.gpr(7),
+        regs.gpr(8),
+    ];
+    told.iter().zip(values).all(|(is, want)| is == want)
+}
+
+/// Whether a call is answered so, and rings this doorbell.
+fn answers(
+    alloc: Global,
+    machine: &mut LoneMachine,
+    status: u32,
+    values: &[u32],
+    rings: Option<u32>,
+) -> Result<bool, Fail> {
+    let rang = call(alloc, machine)?;
+    let regs = registers_of(machine)?;
+    Ok(rang == rings && regs.gpr(3) == status && are_told(regs, values))
+}
+
+/// Whether a machine shows this.
+fn shows(machine: &LoneMachine, seen: Seen) -> Result<bool, Fail> {
+    let regs = registers_of(machine)?;
+    let steps = machine.steps();
+    Ok(match seen {
+        Seen::Registers(registers) => first_wrong(regs, registers).is_none(),
+        Seen::Clocks(at, dec, idle) => {
+            (steps, regs.time(), regs.tsr()) == (at, at, 0)
+                && regs.dec() == dec
+                && regs.idle() == idle
+        }
+        Seen::At(at, pc) => (steps, regs.time(), regs.pc()) == (at, at, pc),
+        Seen::Steps(at) => steps == at,
+        Seen::Esr(esr) => regs.esr() == esr,
+        Seen::Msr(msr) => regs.msr() == msr,
+        Seen::Is(state) => machine.state() == state,
+        Seen::Held(held) => machine.desc().held == held,
+        Seen::Waits(count) => waiting(machine) == Some(count),
+    })
+}
+
+/// Whether what happens between steps can happen.
+fn comes(machine: &mut LoneMachine, turn: Turn) -> bool {
+    match turn {
+        Turn::Ring => try_ring(machine).is_some(),
+        Turn::Give(bytes) => try_give(machine, bytes).is_some(),
+        Turn::Stored(extent, at, len) => {
+            machine.written(&[Wrote { extent, at, len }]);
+            true
+        }
+        _ => false,
+    }
+}
+
+/// Whether a turn goes as it was worked out.
+fn goes_right(alloc: Global, machine: &mut LoneMachine, turn: Turn) -> Result<bool, Fail> {
+    match turn {
+        Turn::Quiet(steps) => shares(alloc, machine, steps, &[]),
+        Turn::Shares(steps, ranges) => shares(alloc, machine, steps, ranges),
+        Turn::Sends(sent) => sends(machine, sent),
+        Turn::Gives(count, taken) => gives(machine, count, taken),
+        Turn::Floods(times) => floods(alloc, machine, times),
+        Turn::Call(_, _, status, values) => answers(alloc, machine, status, values, None),
+        Turn::Send(_, status, rings) => answers(alloc, machine, status, &[], rings),
+        Turn::NotBuilt => Ok(matches!(step(machine, 0)?.act, Act::NotBuilt)),
+        Turn::Faults => Ok(matches!(step(machine, 0)?.act, Act::Faulted)),
+        Turn::See(seen) => shows(machine, seen),
+        _ => Ok(comes(machine, turn)),
+    }
+}
+
+/// The first turn of a machine that goes otherwise.
+pub fn first_wrong_turn(
+    alloc: Global,
+    draft: &Draft,
+    turns: &[Turn],
+) -> Result<Option<usize>, Fail> {
+    let mut machine = machine_of(alloc, draft)?;
+    for (place, turn) in turns.iter().enumerate() {
+        if !goes_right(alloc, &mut machine, *turn)? {
+            return Ok(Some(place));
+        }
+    }
+    Ok(None)
+}
+
+/// The same, where the image is made of the turns' calls.
+pub fn first_wrong_call(alloc: Global, turns: &[Turn]) -> Result<Option<usize>, Fail> {
+    let image = image_of(alloc, turns)?;
+    first_wrong_turn(alloc, &built_in(image.as_slice()), turns)
+}
