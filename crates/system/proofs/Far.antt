@@ -71,7 +71,7 @@ second_end link links end number wire few at true e =
 second_end link links end number wire few at false e =
     ap (λ (b : Bool). if b then side_at number B else wire) at ∙ ap (λ (n : ℕ). side_at n B) (let same : number ≡ number + 0 = omega arith in same)
 
-led : (links : List Link) (end : LinkEnd) (number place : ℕ) (side : Side) → ends_in end links ≤ 1 → place < length links → is_same_end end (end_at side (slice_index_or links place no_link)) ≡ true
+pub led : (links : List Link) (end : LinkEnd) (number place : ℕ) (side : Side) → ends_in end links ≤ 1 → place < length links → is_same_end end (end_at side (slice_index_or links place no_link)) ≡ true
     → side_from number links end ≡ side_at (number + place) side
 led [] end number place side few there at = absurd (omega arith)
 led (link ∷ links) end number zero A few there at =
@@ -207,7 +207,7 @@ named_by : (descs : List Desc) (ref : PortRef) (b : Bool) → (ref.handle == 0) 
 named_by descs ref true e h = absurd (false≢true h)
 named_by descs ref false e h = record { some = let apart = eqb-false ref.handle 0 e in omega (arith, apart); is = channel_in descs ref.part (ref.handle - 1) h }
 
-link_end : (network : Network) (place : ℕ) (side : Side) → are_links_joined network.descs network.wiring ≡ true → place < length network.wiring.links
+pub link_end : (network : Network) (place : ℕ) (side : Side) → are_links_joined network.descs network.wiring ≡ true → place < length network.wiring.links
     → is_end network.descs network.wiring (end_at side (slice_index_or network.wiring.links place no_link)) ≡ true
 unfolding are_links_joined
 link_end network place side h there = by_side side
@@ -238,11 +238,11 @@ channel_once network ref (described.Receive irq) h k = absurd (false≢true k)
 channel_once network ref (described.Manage part held spans) h k = absurd (false≢true k)
 
 -- the handle that an end of a channel names leads there
-record IsBack (network : Network) (ref : PortRef) (place : ℕ) (side : Side) : Type 0 where
-  there : ref.handle - 1 < length (wires_at (wires_of network) ref.part)
-  wire : wire_at (wires_at (wires_of network) ref.part) ref.handle ≡ Channel place side
+pub record IsBack (network : Network) (ref : PortRef) (place : ℕ) (side : Side) : Type 0 where
+  pub there : ref.handle - 1 < length (wires_at (wires_of network) ref.part)
+  pub wire : wire_at (wires_at (wires_of network) ref.part) ref.handle ≡ Channel place side
 
-leads_back : (network : Network) (ref : PortRef) (place : ℕ) (side : Side) → AreJoined network.descs network.wiring → place < length network.wiring.links
+pub leads_back : (network : Network) (ref : PortRef) (place : ℕ) (side : Side) → AreJoined network.descs network.wiring → place < length network.wiring.links
     → end_at side (slice_index_or network.wiring.links place no_link) ≡ Part ref → IsBack network ref place side
 leads_back network ref place side joined there e =
     let joins = joined_parts network.descs network.wiring joined in
@@ -358,13 +358,13 @@ others_after network channels running place side other channel joined long there
 -- ---- what is sent and taken
 
 -- the end that the handle's wire leads to, and the far one
-record IsOwn (network : Network) (part handle : ℕ) : Type 0 where
-  place : ℕ
-  side : Side
-  wire : wire_for network part handle ≡ Channel place side
-  there : place < length network.wiring.links
-  at : is_at (ref_to part handle) (end_at side (slice_index_or network.wiring.links place no_link)) ≡ true
-  far : far_of network part handle ≡ Some (end_at (other_side side) (slice_index_or network.wiring.links place no_link))
+pub record IsOwn (network : Network) (part handle : ℕ) : Type 0 where
+  pub place : ℕ
+  pub side : Side
+  pub wire : wire_for network part handle ≡ Channel place side
+  pub there : place < length network.wiring.links
+  pub at : is_at (ref_to part handle) (end_at side (slice_index_or network.wiring.links place no_link)) ≡ true
+  pub far : far_of network part handle ≡ Some (end_at (other_side side) (slice_index_or network.wiring.links place no_link))
 
 own_by : (network : Network) (part handle : ℕ) (wire : Wire) → wire_for network part handle ≡ wire → kind_of wire ≡ kind.Channel → LeadsTo network part handle wire → IsOwn network part handle
 own_by network part handle (Receive bell) e is led_there = absurd cc
@@ -380,7 +380,7 @@ own_by network part handle (Channel link side) e is led_there =
       far = far_there network.wiring.links (Part (ref_to part handle)) led_there.place led_there.side (let one = led_there.once in omega (arith, one)) led_there.there led_there.at;
     }
 
-own : (network : Network) (part handle : ℕ) → AreJoined network.descs network.wiring → part < length network.descs → kind_at (kinds_of (wires_at (wires_of network) part)) handle ≡ Some kind.Channel
+pub own : (network : Network) (part handle : ℕ) → AreJoined network.descs network.wiring → part < length network.descs → kind_at (kinds_of (wires_at (wires_of network) part)) handle ≡ Some kind.Channel
     → IsOwn network part handle
 own network part handle joined here e =
     let found_there = is_there (wires_at (wires_of network) part) handle kind.Channel e in
@@ -402,7 +402,7 @@ taken_far_end channels running place A count h = rw (get_or-set_same channels pl
 taken_far_end channels running place B count h = rw (get_or-set_same channels place (after_receive B count (channel_at channels place)) empty_channel h, length-drop) refl
 
 -- what the machine of the far partition had
-far_here : (network : Network) (channels : List Waiting) (running : List Bool) (place : ℕ) (side : Side) (ref : PortRef) (other : ℕ) → AreJoined network.descs network.wiring → place < length network.wiring.links
+pub far_here : (network : Network) (channels : List Waiting) (running : List Bool) (place : ℕ) (side : Side) (ref : PortRef) (other : ℕ) → AreJoined network.descs network.wiring → place < length network.wiring.links
     → end_at side (slice_index_or network.wiring.links place no_link) ≡ Part ref → ref.part ≡ other
     → own_end_at (ends_of channels running (wires_at (wires_of network) other)) ref.handle ≡ end_of channels running (Channel place side)
 far_here network channels running place side ref other joined there e same =

@@ -26,7 +26,7 @@ use Rattle.system.proofs.Tied.{joined_parts, wires_there, ports_joined}
 -- ---- channels
 
 -- nothing waits in any of so many channels
-none_wait : (count link : ℕ) → channel_at (replicate count empty_channel) link ≡ empty_channel
+pub none_wait : (count link : ℕ) → channel_at (replicate count empty_channel) link ≡ empty_channel
 none_wait zero link = refl
 none_wait (suc count) zero = refl
 none_wait (suc count) (suc link) = none_wait count link

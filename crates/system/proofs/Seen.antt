@@ -21,7 +21,7 @@ map_same f g (x ∷ xs) d h =
     let head : f x ≡ g x = h 0 (omega arith) in
     cc
 
-map_but : {X Y : Type 0} (f g : X → Y) (xs : List X) (d : X) (k : ℕ) → k < length xs
+pub map_but : {X Y : Type 0} (f g : X → Y) (xs : List X) (d : X) (k : ℕ) → k < length xs
     → ((l : ℕ) → l < length xs → l ≢ k → f (slice_index_or xs l d) ≡ g (slice_index_or xs l d)) → map f xs ≡ slice_set (map g xs) k (f (slice_index_or xs k d))
 map_but f g [] d k i h = absurd (omega arith)
 map_but f g (x ∷ xs) d zero i h = ap (λ ys. f x ∷ ys) (map_same f g xs d (λ l m. h (suc l) (omega arith) (omega arith)))

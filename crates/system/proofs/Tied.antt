@@ -3,7 +3,7 @@ use Rattle.std.proofs.Common.{◌≡◌, ◌≢◌, ℕ, zero, suc, ◌+◌, ◌
 use Rattle.std.specs.Prelude.{count_by, slice_get}
 use Rattle.std.specs.List.{list_all, range_with_len}
 use Rattle.std.specs.Option.{option_map_or}
-use Rattle.std.proofs.lemmas.Bool.{and_parts, false≢true, eqb-true, eq-eqb}
+use Rattle.std.proofs.lemmas.Bool.{and_parts, false≢true, eqb-true, eq-eqb, leb-true}
 use Rattle.std.proofs.lemmas.List.{length-map, length-replicate}
 use Rattle.std.proofs.lemmas.List.Sums.{sum_by-cons}
 use Rattle.std.proofs.lemmas.List.FromFn.{get_or-map-range_with_len, get_or-range_with_len, length-map-range_with_len, length-range_with_len}
@@ -30,8 +30,12 @@ use Rattle.system.specs.Wired.{side_from, channel_wire, console_side, wire_of, w
 -- ---- what joined descriptions keep
 
 pub record Joins (descs : List Desc) (wiring : Wiring) : Type 0 where
+  pub few : length descs ≤ 16
   pub sound : list_all is_sound descs ≡ true
+  pub extents : are_extents_sound wiring ≡ true
+  pub regions : are_regions_joined descs wiring ≡ true
   pub links : are_links_joined descs wiring ≡ true
+  pub managers : are_managers_joined descs wiring ≡ true
   pub ports : are_ports_joined descs wiring ≡ true
 
 pub joined_parts : (descs : List Desc) (wiring : Wiring) → AreJoined descs wiring → Joins descs wiring
@@ -45,7 +49,7 @@ joined_parts descs wiring h =
     let f = and_parts _ (are_extents_sound wiring) e.0 in
     let g = and_parts _ (are_cores_apart descs) f.0 in
     let i = and_parts _ (list_all is_sound descs) g.0 in
-    record { sound = i.1; links = d.1; ports = a.1 }
+    record { few = leb-true (length descs) 16 i.0; sound = i.1; extents = f.1; regions = e.1; links = d.1; managers = b.1; ports = a.1 }
 
 pub all_at : {X : Type 0} (test : X → Bool) (xs : List X) (k : ℕ) (d : X) → list_all test xs ≡ true → k < length xs → test (slice_index_or xs k d) ≡ true
 all_at test [] k d h there = absurd (omega arith)
@@ -299,7 +303,7 @@ opening_kept descs wiring joined =
           omega (arith, number, below, same);
     }
 
-few_of : (desc : Desc) → is_sound desc ≡ true → length desc.ports ≤ 64
+pub few_of : (desc : Desc) → is_sound desc ≡ true → length desc.ports ≤ 64
 unfolding is_sound are_counts_kept
 few_of desc h = grind arith
 

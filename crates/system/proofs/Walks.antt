@@ -1,5 +1,5 @@
 -- One step of a walk along handles and channels.
-use Rattle.std.proofs.Common.{◌≡◌, ℕ, ◌+◌, ◌<◌, true, false, if◌then◌else◌, List, [], ◌∷◌, ◌++◌, length, drop, map, slice_index_or, refl, sym, ap, ◌∙◌, append_assoc, append-nil, arith, drop-cons, drop_of_length-le, add-one}
+use Rattle.std.proofs.Common.{◌≡◌, ℕ, ◌+◌, ◌<◌, true, false, if◌then◌else◌, List, [], ◌∷◌, ◌++◌, length, drop, map, slice_index_or, Some, None, refl, sym, ap, ◌∙◌, append_assoc, append-nil, arith, drop-cons, drop_of_length-le, add-one}
 use Rattle.std.specs.List.{range_with_len}
 use Rattle.std.proofs.lemmas.List.FromFn.{map-range_with_len_more}
 use Rattle.byte_channel.specs.declared.side.Side.TheVariants.{A, B}
@@ -8,7 +8,7 @@ use Rattle.machine_desc.specs.declared.desc.Port.{Port}
 use Rattle.machine_desc.specs.declared.wiring.End.{End}
 use Rattle.machine_desc.specs.declared.wiring.Link.{Link}
 use Rattle.machine_desc.specs.declared.wiring.Wiring.{Wiring}
-use Rattle.network.specs.Network.{is_end, ref_to}
+use Rattle.network.specs.Network.{is_end, ref_to, far_end}
 use Rattle.system.specs.declared.wire.ChannelEnd.{ChannelEnd}
 use Rattle.system.specs.declared.wire.Wire.{Wire}
 use Rattle.system.specs.Wired.{side_from, console_side, wire_of, wires_from, all_wires}
@@ -43,6 +43,30 @@ side_behind links end number d there not_at nor_at = sym (side_step links end nu
 
 pub no_side_left : (links : List Link) (end : End) (number : ℕ) → number ≡ length links → side_from number (drop number links) end ≡ at_a number
 no_side_left links end number last = ap (λ (l : List Link). side_from number l end) (drop_of_length-le links {i = number} (omega arith))
+
+far_step : (links : List Link) (end : End) (number : ℕ) (d : Link) → number < length links
+    → far_end (drop number links) end
+    ≡ (if is_end end (slice_index_or links number d).a then Some (slice_index_or links number d).b else if is_end end (slice_index_or links number d).b then Some (slice_index_or links number d).a
+    else far_end (drop (number + 1) links) end)
+far_step links end number d there =
+    ap (λ (l : List Link). far_end l end) (drop-cons links number d there)
+    ∙ ap (λ (n : ℕ). if is_end end (slice_index_or links number d).a then Some (slice_index_or links number d).b else if is_end end (slice_index_or links number d).b then Some (slice_index_or links number d).a
+    else far_end (drop n links) end) (sym (add-one number))
+
+pub far_here : (links : List Link) (end : End) (number : ℕ) (d : Link) → number < length links → is_end end (slice_index_or links number d).a ≡ true
+    → far_end (drop number links) end ≡ Some (slice_index_or links number d).b
+far_here links end number d there at = far_step links end number d there ∙ rw at refl
+
+pub far_there : (links : List Link) (end : End) (number : ℕ) (d : Link) → number < length links → is_end end (slice_index_or links number d).a ≡ false
+    → is_end end (slice_index_or links number d).b ≡ true → far_end (drop number links) end ≡ Some (slice_index_or links number d).a
+far_there links end number d there not_at at = far_step links end number d there ∙ rw (not_at, at) refl
+
+pub far_behind : (links : List Link) (end : End) (number : ℕ) (d : Link) → number < length links → is_end end (slice_index_or links number d).a ≡ false
+    → is_end end (slice_index_or links number d).b ≡ false → far_end (drop (number + 1) links) end ≡ far_end (drop number links) end
+far_behind links end number d there not_at nor_at = sym (far_step links end number d there ∙ rw (not_at, nor_at) refl)
+
+pub no_far_left : (links : List Link) (end : End) (number : ℕ) → number ≡ length links → far_end (drop number links) end ≡ None
+no_far_left links end number last = ap (λ (l : List Link). far_end l end) (drop_of_length-le links {i = number} (omega arith))
 
 -- one more console
 pub one_more_console : (links : List Link) (count : ℕ) → map (console_side links) (range_with_len 0 (count + 1)) ≡ map (console_side links) (range_with_len 0 count) ++ console_side links count ∷ []

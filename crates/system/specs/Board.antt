@@ -93,6 +93,11 @@ abbrev pub cleared_by : List Waiting → Wire → List Waiting
 cleared_by channels (Channel link side) = slice_set channels link (after_clear side (channel_at channels link))
 cleared_by channels _ = channels
 
+-- after what waits at its far end was dropped
+abbrev pub printed_by : List Waiting → Wire → List Waiting
+printed_by channels (Channel link side) = slice_set channels link (after_clear (other_side side) (channel_at channels link))
+printed_by channels _ = channels
+
 abbrev pub Sends : Lines → ℕ → List ℕ → Lines → Type 0
 Sends old handle bytes new = new ≡ record old { channels = sent_by old.channels (own_wire old handle) bytes }
 

@@ -2,3 +2,8 @@ pub mod Board
 pub mod Wired
 pub mod Channels
 pub mod Opening
+pub mod System
+pub mod Beginning
+pub mod Turning
+pub mod Seats
+pub mod Shown

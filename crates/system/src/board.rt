@@ -3,7 +3,7 @@
 ghost use Rattle.std.specs.Prelude.{◌≡◌, ◌+◌, ◌-◌, ◌<◌, ◌≤◌, min, Some, length, slice_set, take, IfOk};
 ghost use Rattle.machine_desc.specs.Joined.{AreJoined};
 ghost use Rattle.system.specs.Wired.{channel_wire, opening_lines};
-ghost use Rattle.byte_channel.specs.Waiting.{other_side, waiting_at};
+ghost use Rattle.byte_channel.specs.Waiting.{after_clear, other_side, waiting_at};
 ghost use Rattle.partition.specs.Port.{kind_at};
 ghost use Rattle.system.specs.Board as spec;
 
@@ -73,6 +73,13 @@ impl Board {
         })
     }
 
+    /// The partition that it is lent to.
+    pub fn who(&self) -> usize
+        ensures { result ≡ self.now.who }
+    {
+        self.who
+    }
+
     /// Lends to the partition of this number from now on.
     pub fn lend_to(&mut self, who: usize)
         ensures { self.new ≡ record self.old { who = who } }
@@ -127,6 +134,26 @@ impl Board {
         count
     }
 
+    /// Drops what waits at an end of a channel.
+    fn clear_at(&mut self, link: usize, side: Side)
+        requires { link < length self.old.channels }
+        ensures { self.new ≡ record self.old { channels = slice_set self.old.channels link (after_clear side (spec.channel_at self.old.channels link)) } }
+    {
+        let _count = self.channels[link].clear_side(side);
+    }
+
+    /// The console at the far end of a channel takes all that waits there.
+    #[tactic(auto, using(crate::proofs::Seen::end_here))]
+    pub fn print(&mut self, h: u32)
+        requires { kind_at (spec.own_kinds self.old) h ≡ Some Kind.Channel }
+        ensures { self.new ≡ record self.old { channels = spec.printed_by self.old.channels (spec.own_wire self.old h) } }
+    {
+        match self.wire(h, Kind::Channel) {
+            Wire::Channel { link, side } => self.clear_at(link, other(side)),
+            _ => unreachable!(),
+        }
+    }
+
     /// The partition that a handle manages.
     pub fn managed(&self, h: u32) -> usize
         requires { kind_at (spec.own_kinds self.now) h ≡ Some Kind.Manage }
@@ -144,6 +171,16 @@ impl Board {
         ensures { self.new ≡ record self.old { running = slice_set self.old.running part running } }
     {
         self.running[part] = running;
+    }
+}
+
+/// The other side of a channel.
+fn other(side: Side) -> Side
+    ensures { result ≡ other_side side }
+{
+    match side {
+        Side::A => Side::B,
+        Side::B => Side::A,
     }
 }
 

@@ -21,7 +21,7 @@ fn is_same(handle: PortRef, other: &PortRef) -> bool
 }
 
 /// Whether two are one end.
-fn is_end(end: End, other: &End) -> bool
+pub fn is_end(end: End, other: &End) -> bool
     ensures { result ≡ network.is_end end other.now }
 {
     match (end, other) {
@@ -29,6 +29,23 @@ fn is_end(end: End, other: &End) -> bool
         (End::Console(number), End::Console(it)) => number == *it,
         _ => false,
     }
+}
+
+/// The far end of the first channel that has this end.
+#[tactic(auto, using(crate::proofs::Walks::far_here, crate::proofs::Walks::far_there, crate::proofs::Walks::no_far_left, crate::proofs::Walks::far_behind))]
+pub fn far_end(links: &[Link], end: End) -> Option<End>
+    ensures { result ≡ network.far_end links.now end }
+{
+    for number in 0..links.len() {
+        let link = &links[number];
+        if is_end(end, &link.a) {
+            return Some(link.b);
+        }
+        if is_end(end, &link.b) {
+            return Some(link.a);
+        }
+    }
+    None
 }
 
 /// The side of a channel that is this end.
@@ -82,7 +99,7 @@ pub fn console_sides(
 }
 
 /// Whether the handle is among these.
-fn is_among(handle: PortRef, refs: &[PortRef]) -> bool
+pub fn is_among(handle: PortRef, refs: &[PortRef]) -> bool
     ensures { result ≡ list_any (joined.same_ref handle) refs.now }
 {
     refs.iter().any(|other| is_same(handle, other))

@@ -1,0 +1,235 @@
+-- What a system keeps over a turn.
+use Rattle.std.proofs.Common.{◌≡◌, ◌≢◌, ℕ, ◌+◌, ◌<◌, ◌==◌, Bool, true, false, List, length, slice_index_or, Option, Some, None, refl, sym, ap, subst, ◌∙◌, arith, length-set}
+use Rattle.std.proofs.lemmas.Bool.{false≢true, eqb-true}
+use Rattle.std.proofs.lemmas.List.{length-map, get_or-map}
+use Rattle.byte_channel.specs.declared.side.Side.{Side}
+use Rattle.byte_channel.specs.declared.side.Side.TheVariants.{A, B}
+use Rattle.byte_channel.specs.Waiting.{Waiting, other_side, waiting_at, after_receive}
+use Rattle.core_step.specs.declared.answer.Wrote.{Wrote}
+use Rattle.machine_desc.specs.declared.act.Act.{Act as Told}
+use Rattle.machine_desc.specs.declared.act.Act.TheVariants as told
+use Rattle.machine_desc.specs.declared.desc.Desc.{Desc}
+use Rattle.machine_desc.specs.declared.wiring.PortRef.{PortRef}
+use Rattle.machine_desc.specs.declared.wiring.End.{End as LinkEnd}
+use Rattle.machine_desc.specs.declared.wiring.End.TheVariants.{Part, Console}
+use Rattle.machine_desc.specs.Joined.{is_at, AreJoined}
+use Rattle.fresh_load.specs.Placed.{ArePlaced}
+use Rattle.fresh_load.proofs.Places.{all_still_placed}
+use Rattle.partition.specs.declared.kind.Kind.TheVariants as kind
+use Rattle.partition.specs.Port.{kind_at, kinds_of as described_kinds}
+use Rattle.partition.specs.Act.{act_of, steps_after}
+use Rattle.partition.specs.Machine.{most_steps}
+use Rattle.partition.specs.Lending.{Part as Member, Did, HasHandle}
+use Rattle.network.specs.Network.{no_desc, ref_to, far_of}
+use Rattle.network.specs.World.{Counts}
+use Rattle.network.specs.Effects.{count_printed, printed_by}
+use Rattle.system.specs.declared.wire.Wire.{Wire}
+use Rattle.system.specs.declared.wire.Wire.TheVariants.{Channel}
+use Rattle.system.specs.Board.{Lines, channel_at, kinds_of, wires_at, own_wire, sent_by, taken_by, Sends, Takes}
+use Rattle.system.specs.Wired.{all_wires}
+use Rattle.system.specs.System.{Held, no_part, part_at, descs_of, network_of, AreTaken, IsSystem}
+use Rattle.system.specs.Turning.{HasConsole, Settles, marked_lines, printed_lines}
+use Rattle.system.proofs.Tied.{no_link, end_at}
+use Rattle.system.proofs.Far.{IsOwn}
+use Rattle.system.proofs.Opened.{same_lists}
+use Rattle.system.proofs.Entered.{still_taken, sent_taken}
+use Rattle.system.proofs.Rung.{keeps_desc, keeps_steps}
+use Rattle.system.proofs.Told.{IsHeard, heard_long, heard_own, heard_other, heard_desc}
+use Rattle.system.proofs.Counted.{CountsStep, turned_counted}
+use Rattle.system.proofs.Acts.{left_by, own_end, sent_lines, taken_lines}
+use Rattle.system.proofs.Settled.{printed_same, sort_of}
+
+-- ---- the board
+
+pub record KeepsLines (held : Held) (left : Lines) : Type 0 where
+  pub wires : left.wires ≡ held.lines.wires
+  pub running : length left.running ≡ length held.lines.running
+  pub channels : length left.channels ≡ length held.lines.channels
+  pub consoles : left.consoles ≡ held.lines.consoles
+  pub taken : AreTaken held.wiring left.channels
+
+same_lines : (held : Held) (left : Lines) → IsSystem held → left ≡ held.lines → KeepsLines held left
+same_lines held left kept e = subst (λ (ls : Lines). KeepsLines held ls) (sym e) (record { wires = refl; running = refl; channels = refl; consoles = refl; taken = kept.taken })
+
+marked_keeps : (held : Held) (left : Lines) → IsSystem held → left ≡ marked_lines held.lines held.lines.who false → KeepsLines held left
+marked_keeps held left kept e = subst (λ (ls : Lines). KeepsLines held ls) (sym e) (record { wires = refl; running = length-set held.lines.running held.lines.who false; channels = refl; consoles = refl; taken = kept.taken })
+
+wire_is : (held : Held) (handle : ℕ) → IsSystem held → (it : IsOwn (network_of held) held.lines.who handle) → own_wire held.lines handle ≡ Channel it.place it.side
+wire_is held handle kept it = ap (λ (ws : List (List Wire)). own_wire (record held.lines { wires = ws }) handle) kept.wires ∙ it.wire
+
+some_is : {X : Type 0} (x y : X) → Some x ≡ Some y → x ≡ y
+some_is x y e = cc
+
+sent_keeps : (held : Held) (handle : ℕ) (bytes : List ℕ) (ref : PortRef) → IsSystem held → held.lines.who < length held.parts → kind_at (kinds_of (wires_at held.lines.wires held.lines.who)) handle ≡ Some kind.Channel
+    → far_of (network_of held) held.lines.who handle ≡ Some (Part ref) → KeepsLines held (sent_lines held.lines handle bytes)
+sent_keeps held handle bytes ref kept here sort far =
+    let it = own_end held handle kept here sort in
+    let wire = wire_is held handle kept it in
+    let below : it.place < length held.lines.channels = let t = it.there in let long = kept.channels in omega (arith, t, long) in
+    record {
+      wires = refl;
+      running = refl;
+      channels = ap (λ (w : Wire). length (sent_by held.lines.channels w bytes)) wire ∙ length-set held.lines.channels it.place _;
+      consoles = refl;
+      taken = subst (λ (w : Wire). AreTaken held.wiring (sent_by held.lines.channels w bytes)) (sym wire)
+          (sent_taken (network_of held) held.lines.channels it.place it.side bytes ref kept.joined below (some_is _ (Part ref) (sym it.far ∙ far)) kept.taken);
+    }
+
+part_at_end : (ref : PortRef) (end : LinkEnd) → is_at ref end ≡ true → (other : PortRef) × (end ≡ Part other)
+part_at_end ref (Part other) h = (other, refl)
+part_at_end ref (Console number) h = absurd (false≢true h)
+
+taken_beside : (side : Side) (count : ℕ) (channel : Waiting) → waiting_at (other_side side) (after_receive side count channel) ≡ waiting_at (other_side side) channel
+taken_beside A count channel = refl
+taken_beside B count channel = refl
+
+taken_keeps : (held : Held) (handle count : ℕ) → IsSystem held → held.lines.who < length held.parts → kind_at (kinds_of (wires_at held.lines.wires held.lines.who)) handle ≡ Some kind.Channel
+    → KeepsLines held (taken_lines held.lines handle count)
+taken_keeps held handle count kept here sort =
+    let it = own_end held handle kept here sort in
+    let wire = wire_is held handle kept it in
+    let below : it.place < length held.lines.channels = let t = it.there in let long = kept.channels in omega (arith, t, long) in
+    let own = part_at_end (ref_to held.lines.who handle) (end_at it.side (slice_index_or held.wiring.links it.place no_link)) it.at in
+    record {
+      wires = refl;
+      running = refl;
+      channels = ap (λ (w : Wire). length (taken_by held.lines.channels w count)) wire ∙ length-set held.lines.channels it.place _;
+      consoles = refl;
+      taken = subst (λ (w : Wire). AreTaken held.wiring (taken_by held.lines.channels w count)) (sym wire)
+          (still_taken (network_of held) held.lines.channels it.place it.side (after_receive it.side count (channel_at held.lines.channels it.place)) own.0 kept.joined below own.1
+          (taken_beside it.side count (channel_at held.lines.channels it.place)) kept.taken);
+    }
+
+printed_keeps : (held : Held) (lines left : Lines) (handle : ℕ) (bytes : List ℕ) → IsSystem held → held.lines.who < length held.parts → kind_at (kinds_of (wires_at held.lines.wires held.lines.who)) handle ≡ Some kind.Channel
+    → lines ≡ sent_lines held.lines handle bytes → left ≡ printed_lines (far_of (network_of held) held.lines.who handle) handle lines → KeepsLines held left
+printed_keeps held lines left handle bytes kept here sort same l = by_far (far_of (network_of held) held.lines.who handle) refl
+  where
+    left_is : left ≡ printed_lines (far_of (network_of held) held.lines.who handle) handle (sent_lines held.lines handle bytes)
+    left_is = l ∙ ap (λ (ls : Lines). printed_lines (far_of (network_of held) held.lines.who handle) handle ls) same
+
+    by_far : (far : Option LinkEnd) → far_of (network_of held) held.lines.who handle ≡ far → KeepsLines held left
+    by_far None e = let it = own_end held handle kept here sort in let both : None ≡ Some _ = sym e ∙ it.far in absurd cc
+    by_far (Some (Part ref)) e =
+        subst (λ (ls : Lines). KeepsLines held ls) (sym (left_is ∙ ap (λ (far : Option LinkEnd). printed_lines far handle (sent_lines held.lines handle bytes)) e)) (sent_keeps held handle bytes ref kept here sort e)
+    by_far (Some (Console console)) e =
+        same_lines held left kept (left_is ∙ (ap (λ (far : Option LinkEnd). printed_lines far handle (sent_lines held.lines handle bytes)) e ∙ printed_same held handle console bytes kept here sort e))
+
+lines_kept : (held : Held) (heard rung : List Member) (lines left : Lines) (act : Told) (counts new : List Counts) → IsSystem held → held.lines.who < length held.parts → Did Sends Takes act held.lines lines
+    → HasHandle (described_kinds (part_at held.parts held.lines.who).desc.ports) act → Settles held.wiring held.lines.who act heard rung lines left counts new → KeepsLines held left
+lines_kept held heard rung lines left (told.Sent on bytes) counts new kept here did handle s = printed_keeps held lines left on bytes.items kept here (sort_of held on kept here handle) did s.1
+lines_kept held heard rung lines left (told.Took on count) counts new kept here did handle s =
+    subst (λ (ls : Lines). KeepsLines held ls) (sym (s.1 ∙ did)) (taken_keeps held on count kept here (sort_of held on kept here handle))
+lines_kept held heard rung lines left (told.Rang on) counts new kept here did handle s = same_lines held left kept (s.1 ∙ did)
+lines_kept held heard rung lines left told.SelfStop counts new kept here did handle s = marked_keeps held left kept (s.1 ∙ ap (λ (ls : Lines). marked_lines ls held.lines.who false) did)
+lines_kept held heard rung lines left told.Faulted counts new kept here did handle s = marked_keeps held left kept (s.1 ∙ ap (λ (ls : Lines). marked_lines ls held.lines.who false) did)
+lines_kept held heard rung lines left _ counts new kept here did handle s = same_lines held left kept (s.1 ∙ did)
+
+-- ---- consoles
+
+pub printed_so : (held : Held) (heard rung : List Member) (lines left : Lines) (act : Told) (counts new : List Counts) → Settles held.wiring held.lines.who act heard rung lines left counts new
+    → new ≡ printed_by (network_of held) held.lines.who (act_of act) counts
+printed_so held heard rung lines left (told.Sent on bytes) counts new s = s.2
+printed_so held heard rung lines left (told.Rang on) counts new s = s.2
+printed_so held heard rung lines left told.SelfStop counts new s = s.2
+printed_so held heard rung lines left told.Faulted counts new s = s.2
+printed_so held heard rung lines left _ counts new s = s.2
+
+printed_long : (far : Option LinkEnd) (count : ℕ) (counts : List Counts) → length (count_printed far count counts) ≡ length counts
+printed_long None count counts = refl
+printed_long (Some (Part ref)) count counts = refl
+printed_long (Some (Console console)) count counts = length-set counts console _
+
+counts_long : (held : Held) (heard rung : List Member) (lines left : Lines) (act : Told) (counts new : List Counts) → Settles held.wiring held.lines.who act heard rung lines left counts new → length new ≡ length counts
+counts_long held heard rung lines left (told.Sent on bytes) counts new s = ap length s.2 ∙ printed_long (far_of (network_of held) held.lines.who on) (length bytes.items) counts
+counts_long held heard rung lines left (told.Rang on) counts new s = ap length s.2
+counts_long held heard rung lines left told.SelfStop counts new s = ap length s.2
+counts_long held heard rung lines left told.Faulted counts new s = ap length s.2
+counts_long held heard rung lines left _ counts new s = ap length s.2
+
+-- ---- partitions
+
+record KeepsDescs (heard rung : List Member) : Type 0 where
+  count : length rung ≡ length heard
+  each : (part : ℕ) → part < length heard → (part_at rung part).desc ≡ (part_at heard part).desc
+  steps : (part : ℕ) → part < length heard → (part_at rung part).inner.steps ≡ (part_at heard part).inner.steps
+
+same_descs : (heard rung : List Member) → rung ≡ heard → KeepsDescs heard rung
+same_descs heard rung e = record { count = ap length e; each = λ part there. ap (λ (ps : List Member). (part_at ps part).desc) e; steps = λ part there. ap (λ (ps : List Member). (part_at ps part).inner.steps) e }
+
+descs_kept : (held : Held) (heard rung : List Member) (lines left : Lines) (act : Told) (counts new : List Counts) → Settles held.wiring held.lines.who act heard rung lines left counts new → KeepsDescs heard rung
+descs_kept held heard rung lines left (told.Sent on bytes) counts new s = same_descs heard rung s.0
+descs_kept held heard rung lines left (told.Rang on) counts new s =
+    let rings = s.0 in
+    record {
+      count = rings.count;
+      each = λ part there. ap (λ (p : Member). p.desc) (rings.each part there) ∙ keeps_desc held.wiring.bells (ref_to held.lines.who on) part (length (part_at heard part).desc.ports) (part_at heard part);
+      steps = λ part there. ap (λ (p : Member). p.inner.steps) (rings.each part there) ∙ keeps_steps held.wiring.bells (ref_to held.lines.who on) part (length (part_at heard part).desc.ports) (part_at heard part);
+    }
+descs_kept held heard rung lines left told.SelfStop counts new s = same_descs heard rung s.0
+descs_kept held heard rung lines left told.Faulted counts new s = same_descs heard rung s.0
+descs_kept held heard rung lines left _ counts new s = same_descs heard rung s.0
+
+-- one of them counts the step, if it is counted
+pub counts_step : (held : Held) (stepped heard rung : List Member) (memory : List (List ℕ)) (lines left : Lines) (core : ℕ) (act : Told) (ranges : List Wrote) (counts new : List Counts)
+    → IsHeard held stepped heard memory lines core act ranges → Settles held.wiring held.lines.who act heard rung lines left counts new → ((n : ℕ) → steps_after (act_of act) n ≡ n + 1)
+    → CountsStep held.lines.who held.parts rung
+counts_step held stepped heard rung memory lines left core act ranges counts new h s more =
+    let who : ℕ = held.lines.who in
+    let keeps = descs_kept held heard rung lines left act counts new s in
+    let long = heard_long held stepped heard memory lines core act ranges h in
+    let here = h.is.who in
+    record {
+      count = keeps.count ∙ long;
+      own = keeps.steps who (omega (arith, here, long))
+          ∙ (ap (λ (p : Member). p.inner.steps) (heard_own held stepped heard memory lines core act ranges h) ∙ (h.is.step.counted ∙ more (part_at held.parts who).inner.steps));
+      others = λ part there ne. keeps.steps part (omega (arith, there, long)) ∙ ap (λ (p : Member). p.inner.steps) (heard_other held stepped heard memory lines core act ranges part h there (not_same part ne (part == who) refl));
+    }
+  where
+    not_same : (part : ℕ) → part ≢ held.lines.who → (b : Bool) → (part == held.lines.who) ≡ b → (part == held.lines.who) ≡ false
+    not_same part ne false e = e
+    not_same part ne true e = absurd (ne (eqb-true part held.lines.who e))
+
+-- ---- all of it
+
+-- the descriptions stay
+pub descs_stay : (held : Held) (stepped heard rung : List Member) (memory : List (List ℕ)) (lines left : Lines) (core : ℕ) (act : Told) (ranges : List Wrote) (counts new : List Counts)
+    → IsHeard held stepped heard memory lines core act ranges → Settles held.wiring held.lines.who act heard rung lines left counts new → descs_of rung ≡ descs_of held.parts
+descs_stay held stepped heard rung memory lines left core act ranges counts new h s =
+    let keeps = descs_kept held heard rung lines left act counts new s in
+    let long = heard_long held stepped heard memory lines core act ranges h in
+    let count = keeps.count in
+    let news : length (descs_of rung) ≡ length rung = length-map rung (λ (p : Member). p.desc) in
+    let olds : length (descs_of held.parts) ≡ length held.parts = length-map held.parts (λ (p : Member). p.desc) in
+    same_lists (descs_of rung) (descs_of held.parts) no_desc no_desc (omega (arith, news, olds, long, count))
+    (λ part there.
+    let within : part < length held.parts = omega (arith, there, news, long, count) in
+    get_or-map (λ (p : Member). p.desc) rung part no_part no_desc (omega (arith, there, news))
+    ∙ (keeps.each part (omega (arith, within, long))
+    ∙ (heard_desc held stepped heard memory lines core act ranges part h within ∙ sym (get_or-map (λ (p : Member). p.desc) held.parts part no_part no_desc within))))
+
+pub turn_kept : (held : Held) (stepped heard rung : List Member) (memory : List (List ℕ)) (lines left : Lines) (core : ℕ) (act : Told) (ranges : List Wrote) (new : List Counts) (unbuilt : Option ℕ)
+    → IsHeard held stepped heard memory lines core act ranges → Settles held.wiring held.lines.who act heard rung lines left held.counts new → ((n : ℕ) → steps_after (act_of act) n ≡ n + 1)
+    → (part_at held.parts held.lines.who).inner.steps < most_steps → ((handle : ℕ) → HasConsole (length held.counts) (far_of (network_of held) held.lines.who handle))
+    → IsSystem (left_by held rung memory left new unbuilt)
+turn_kept held stepped heard rung memory lines left core act ranges new unbuilt h s more few has =
+    let kept = h.is.kept in
+    let descs = descs_stay held stepped heard rung memory lines left core act ranges held.counts new h s in
+    let board = lines_kept held heard rung lines left act held.counts new kept h.is.who h.is.step.did h.is.step.handle s in
+    let keeps = descs_kept held heard rung lines left act held.counts new s in
+    let long = heard_long held stepped heard memory lines core act ranges h in
+    let count = keeps.count in
+    record {
+      joined = subst (λ (l : List Desc). AreJoined l held.wiring) (sym descs) kept.joined;
+      wires = board.wires ∙ (kept.wires ∙ ap (λ (l : List Desc). all_wires held.wiring 0 l) (sym descs));
+      running = let r = board.running in let old = kept.running in omega (arith, r, old, count, long);
+      channels = board.channels ∙ kept.channels;
+      consoles = board.consoles ∙ kept.consoles;
+      counts = counts_long held heard rung lines left act held.counts new s ∙ kept.counts;
+      placed = λ part there.
+          let within : part < length held.parts = omega (arith, there, long, count) in
+          subst (λ (d : Desc). ArePlaced memory d.regions) (sym (keeps.each part (omega (arith, within, long)) ∙ heard_desc held stepped heard memory lines core act ranges part h within))
+          (all_still_placed held.memory memory (part_at held.parts part).desc.regions h.is.step.sizes (kept.placed part within));
+      taken = board.taken;
+      counted = turned_counted (network_of held) held.lines.who act held.parts rung held.lines left held.counts new kept.counted h.is.who few
+          (counts_step held stepped heard rung memory lines left core act ranges held.counts new h s more) has h.is.step.bytes (printed_so held heard rung lines left act held.counts new s);
+    }

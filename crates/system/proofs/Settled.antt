@@ -1,0 +1,201 @@
+-- A turn's machines, whatever its act.
+use Rattle.std.proofs.Common.{◌≡◌, ℕ, zero, suc, ◌+◌, ◌<◌, true, false, List, [], ◌∷◌, length, map, slice_index_or, slice_set, Option, Some, None, refl, sym, ap, subst, ◌∙◌, arith}
+use Rattle.std.proofs.lemmas.Bool.{eq-eqb, ltb-true}
+use Rattle.byte_channel.specs.declared.side.Side.{Side}
+use Rattle.byte_channel.specs.declared.side.Side.TheVariants.{A, B}
+use Rattle.byte_channel.specs.Waiting.{Waiting, empty_channel, other_side, waiting_at, after_send, after_clear}
+use Rattle.core_step.specs.declared.answer.Wrote.{Wrote}
+use Rattle.machine_desc.specs.declared.act.Act.{Act as Told}
+use Rattle.machine_desc.specs.declared.act.Act.TheVariants as told
+use Rattle.machine_desc.specs.declared.wiring.End.{End as LinkEnd}
+use Rattle.machine_desc.specs.declared.wiring.End.TheVariants.{Part, Console}
+use Rattle.partition.specs.declared.kind.Kind.{Kind}
+use Rattle.partition.specs.declared.kind.Kind.TheVariants as kind
+use Rattle.partition.specs.Port.{kind_at, kinds_of as described_kinds}
+use Rattle.partition.specs.Act.{Act, act_of}
+use Rattle.partition.specs.Lending.{Part as Member, Did, HasHandle}
+use Rattle.network.specs.Network.{Network, desc_at, ref_to, is_end as is_same_end, far_of, receivers_of, manager_of}
+use Rattle.network.specs.World.{Counts, machine_at, delivered, after_log}
+use Rattle.network.specs.Effects.{ring_at, brought, sent_to, room_at, tell_manager}
+use Rattle.machine_desc.specs.Joined.{is_end}
+use Rattle.system.specs.declared.wire.ChannelEnd.{ChannelEnd}
+use Rattle.system.specs.declared.wire.Wire.{Wire}
+use Rattle.system.specs.declared.wire.Wire.TheVariants.{Channel}
+use Rattle.system.specs.Board.{Lines, channel_at, kinds_of, wires_at, own_wire, sent_by, printed_by, Sends, Takes}
+use Rattle.system.specs.Wired.{console_side}
+use Rattle.system.specs.System.{Held, part_at, network_of, machine_by, machines_of, IsSystem}
+use Rattle.system.specs.Turning.{Settles, Rings, marked_lines, printed_lines}
+use Rattle.system.proofs.Tied.{joined_parts, no_link, end_at, side_at, console_once}
+use Rattle.system.proofs.Far.{IsOwn, led, link_end}
+use Rattle.system.proofs.Shown.{IsStep, after_shown, stepped_so}
+use Rattle.system.proofs.Told.{IsHeard}
+use Rattle.system.proofs.Acts.{left_by, none_machines, kinds_are, own_end, sent_lines, taken_lines, sent_to_part, sent_to_console, taken_from_part, taken_at_console}
+use Rattle.system.proofs.Rings.{rung_machines}
+use Rattle.system.proofs.Managers.{ended_machines}
+use Rattle.partition.proofs.Possible.{MayBe, step_may}
+
+-- the machines are what the events of the act make of those that saw the step
+abbrev pub IsSettled : Held → List Member → List (List ℕ) → Lines → List Counts → Option ℕ → ℕ → Told → Type 0
+IsSettled held rung memory left counts unbuilt core act =
+    machines_of (left_by held rung memory left counts unbuilt)
+    ≡ after_log (network_of held) (map delivered (brought (network_of held) (machines_of held) held.lines.who (act_of act))) (after_shown (network_of held) (machines_of held) held.lines.who core)
+
+-- an act that others don't hear of
+quiet_settled : (held : Held) (stepped heard rung : List Member) (memory : List (List ℕ)) (lines left : Lines) (core : ℕ) (act : Told) (ranges : List Wrote) (counts : List Counts) (unbuilt : Option ℕ)
+    → IsHeard held stepped heard memory lines core act ranges → lines ≡ held.lines → rung ≡ heard → left ≡ lines
+    → machines_of (left_by held rung memory left counts unbuilt) ≡ after_log (network_of held) [] (after_shown (network_of held) (machines_of held) held.lines.who core)
+quiet_settled held stepped heard rung memory lines left core act ranges counts unbuilt h same r l =
+    ap (λ (ps : List Member). machines_of (left_by held ps memory left counts unbuilt)) r
+    ∙ (ap (λ (ls : Lines). machines_of (left_by held heard memory ls counts unbuilt)) l
+    ∙ none_machines held stepped heard memory lines lines core act ranges counts unbuilt h refl
+    (λ part there ne. ap (λ (ls : Lines). machine_by (part_at heard part) ls memory part) same))
+
+rung_settled : (held : Held) (stepped heard rung : List Member) (memory : List (List ℕ)) (lines left : Lines) (core : ℕ) (handle : ℕ) (act : Told) (ranges : List Wrote) (counts : List Counts) (unbuilt : Option ℕ)
+    → IsHeard held stepped heard memory lines core act ranges → lines ≡ held.lines → Rings held.wiring.bells (ref_to held.lines.who handle) heard rung → left ≡ lines
+    → machines_of (left_by held rung memory left counts unbuilt)
+    ≡ after_log (network_of held) (map delivered (map ring_at (receivers_of (network_of held) held.lines.who handle))) (after_shown (network_of held) (machines_of held) held.lines.who core)
+rung_settled held stepped heard rung memory lines left core handle act ranges counts unbuilt h same r l =
+    ap (λ (ls : Lines). machines_of (left_by held rung memory ls counts unbuilt)) (l ∙ same)
+    ∙ rung_machines held stepped heard rung memory core act ranges counts unbuilt handle (subst (λ (ls : Lines). IsHeard held stepped heard memory ls core act ranges) same h) r
+
+ended_settled : (held : Held) (stepped heard rung : List Member) (memory : List (List ℕ)) (lines left : Lines) (core : ℕ) (act : Told) (ranges : List Wrote) (counts : List Counts) (unbuilt : Option ℕ)
+    → IsHeard held stepped heard memory lines core act ranges → length held.lines.running ≡ length held.parts → lines ≡ held.lines → rung ≡ heard → left ≡ marked_lines lines held.lines.who false
+    → machines_of (left_by held rung memory left counts unbuilt)
+    ≡ after_log (network_of held) (map delivered (tell_manager (manager_of (network_of held) held.lines.who))) (after_shown (network_of held) (machines_of held) held.lines.who core)
+ended_settled held stepped heard rung memory lines left core act ranges counts unbuilt h long same r l =
+    ap (λ (ps : List Member). machines_of (left_by held ps memory left counts unbuilt)) r
+    ∙ (ap (λ (ls : Lines). machines_of (left_by held heard memory ls counts unbuilt)) (l ∙ ap (λ (ls : Lines). marked_lines ls held.lines.who false) same)
+    ∙ ended_machines held stepped heard memory core act ranges counts unbuilt (subst (λ (ls : Lines). IsHeard held stepped heard memory ls core act ranges) same h) long)
+
+pub taken_settled : (held : Held) (stepped heard rung : List Member) (memory : List (List ℕ)) (lines left : Lines) (core : ℕ) (handle count : ℕ) (act : Told) (ranges : List Wrote) (counts : List Counts) (unbuilt : Option ℕ)
+    → IsHeard held stepped heard memory lines core act ranges → kind_at (kinds_of (wires_at held.lines.wires held.lines.who)) handle ≡ Some kind.Channel → lines ≡ taken_lines held.lines handle count → rung ≡ heard → left ≡ lines
+    → machines_of (left_by held rung memory left counts unbuilt)
+    ≡ after_log (network_of held) (map delivered (room_at (far_of (network_of held) held.lines.who handle) count)) (after_shown (network_of held) (machines_of held) held.lines.who core)
+taken_settled held stepped heard rung memory lines left core handle count act ranges counts unbuilt h sort same r l =
+    ap (λ (ps : List Member). machines_of (left_by held ps memory left counts unbuilt)) r
+    ∙ (ap (λ (ls : Lines). machines_of (left_by held heard memory ls counts unbuilt)) (l ∙ same)
+    ∙ by_far (far_of (network_of held) held.lines.who handle) refl)
+  where
+    after : IsHeard held stepped heard memory (taken_lines held.lines handle count) core act ranges
+    after = subst (λ (ls : Lines). IsHeard held stepped heard memory ls core act ranges) same h
+
+    by_far : (far : Option LinkEnd) → far_of (network_of held) held.lines.who handle ≡ far
+        → machines_of (left_by held heard memory (taken_lines held.lines handle count) counts unbuilt)
+        ≡ after_log (network_of held) (map delivered (room_at (far_of (network_of held) held.lines.who handle) count)) (after_shown (network_of held) (machines_of held) held.lines.who core)
+    by_far None e = let it = own_end held handle h.is.kept h.is.who sort in let both : None ≡ Some _ = sym e ∙ it.far in absurd cc
+    by_far (Some (Part ref)) e =
+        taken_from_part held stepped heard memory core act ranges counts unbuilt handle count ref after sort e
+        ∙ ap (λ (far : Option LinkEnd). after_log (network_of held) (map delivered (room_at far count)) (after_shown (network_of held) (machines_of held) held.lines.who core)) (sym e)
+    by_far (Some (Console console)) e =
+        taken_at_console held stepped heard memory core act ranges counts unbuilt handle count console after sort e
+        ∙ ap (λ (far : Option LinkEnd). after_log (network_of held) (map delivered (room_at far count)) (after_shown (network_of held) (machines_of held) held.lines.who core)) (sym e)
+
+-- ---- a console prints
+
+set_back_at : {X : Type 0} (f g : X → X) (xs : List X) (k : ℕ) (d : X) → k < length xs → g (f (slice_index_or xs k d)) ≡ slice_index_or xs k d
+    → slice_set (slice_set xs k (f (slice_index_or xs k d))) k (g (slice_index_or (slice_set xs k (f (slice_index_or xs k d))) k d)) ≡ xs
+set_back_at f g [] k d there h = absurd (omega arith)
+set_back_at f g (x ∷ xs) zero d there h = ap (λ (y : _). y ∷ xs) h
+set_back_at f g (x ∷ xs) (suc k) d there h = ap (λ (l : List _). x ∷ l) (set_back_at f g xs k d (omega arith) h)
+
+sent_and_printed : (side : Side) (bytes : List ℕ) (channel : Waiting) → waiting_at (other_side side) channel ≡ [] → after_clear (other_side side) (after_send side bytes channel) ≡ channel
+sent_and_printed A bytes channel h = ap (λ (l : List ℕ). let it : Waiting = record { at_a = channel.at_a; at_b = l } in it) (sym h)
+sent_and_printed B bytes channel h = ap (λ (l : List ℕ). let it : Waiting = record { at_a = l; at_b = channel.at_b } in it) (sym h)
+
+some_same : {X : Type 0} (x y : X) → Some x ≡ Some y → x ≡ y
+some_same x y e = cc
+
+none_waits : (held : Held) (handle console : ℕ) → IsSystem held → held.lines.who < length held.parts → (it : IsOwn (network_of held) held.lines.who handle) → far_of (network_of held) held.lines.who handle ≡ Some (Console console)
+    → waiting_at (other_side it.side) (channel_at held.lines.channels it.place) ≡ []
+none_waits held handle console kept here it far =
+    let network : Network = network_of held in
+    let joins = joined_parts network.descs network.wiring kept.joined in
+    let end : end_at (other_side it.side) (slice_index_or network.wiring.links it.place no_link) ≡ Console console = some_same _ (Console console) (sym it.far ∙ far) in
+    let below : console < length network.wiring.consoles = ltb-true console (length network.wiring.consoles) (sym (ap (is_end network.descs network.wiring) end) ∙ link_end network it.place (other_side it.side) joins.links it.there) in
+    let once = console_once network.descs network.wiring console joins.links below in
+    let at : is_same_end (Console console) (end_at (other_side it.side) (slice_index_or network.wiring.links it.place no_link)) ≡ true = ap (is_same_end (Console console)) end ∙ eq-eqb console console refl in
+    let side : console_side network.wiring.links console ≡ side_at it.place (other_side it.side) =
+    led network.wiring.links (Console console) 0 it.place (other_side it.side) (omega (arith, once)) it.there at ∙ ap (λ (n : ℕ). side_at n (other_side it.side)) (let same : 0 + it.place ≡ it.place = omega arith in same) in
+    ap (λ (c : ChannelEnd). waiting_at c.side (channel_at held.lines.channels c.link)) (sym side) ∙ kept.taken console below
+
+pub printed_same : (held : Held) (handle console : ℕ) (bytes : List ℕ) → IsSystem held → held.lines.who < length held.parts → kind_at (kinds_of (wires_at held.lines.wires held.lines.who)) handle ≡ Some kind.Channel
+    → far_of (network_of held) held.lines.who handle ≡ Some (Console console) → printed_lines (Some (Console console)) handle (sent_lines held.lines handle bytes) ≡ held.lines
+printed_same held handle console bytes kept here sort far =
+    let lines : Lines = held.lines in
+    let it = own_end held handle kept here sort in
+    let wire : own_wire lines handle ≡ Channel it.place it.side = ap (λ (ws : List (List Wire)). own_wire (record lines { wires = ws }) handle) kept.wires ∙ it.wire in
+    let below : it.place < length lines.channels = let t = it.there in let long = kept.channels in omega (arith, t, long) in
+    ap (λ (w : Wire). let next : Lines = record lines { channels = printed_by (sent_by lines.channels w bytes) w } in next) wire
+    ∙ ap (λ (cs : List Waiting). let next : Lines = record lines { channels = cs } in next)
+    (set_back_at (after_send it.side bytes) (after_clear (other_side it.side)) lines.channels it.place empty_channel below
+    (sent_and_printed it.side bytes (channel_at lines.channels it.place) (none_waits held handle console kept here it far)))
+
+sent_settled : (held : Held) (stepped heard rung : List Member) (memory : List (List ℕ)) (lines left : Lines) (core : ℕ) (handle : ℕ) (bytes : List ℕ) (act : Told) (ranges : List Wrote) (counts : List Counts) (unbuilt : Option ℕ)
+    → IsHeard held stepped heard memory lines core act ranges → kind_at (kinds_of (wires_at held.lines.wires held.lines.who)) handle ≡ Some kind.Channel → lines ≡ sent_lines held.lines handle bytes → rung ≡ heard
+    → left ≡ printed_lines (far_of (network_of held) held.lines.who handle) handle lines
+    → machines_of (left_by held rung memory left counts unbuilt)
+    ≡ after_log (network_of held) (map delivered (sent_to (far_of (network_of held) held.lines.who handle) held.lines.who handle bytes)) (after_shown (network_of held) (machines_of held) held.lines.who core)
+sent_settled held stepped heard rung memory lines left core handle bytes act ranges counts unbuilt h sort same r l =
+    ap (λ (ps : List Member). machines_of (left_by held ps memory left counts unbuilt)) r
+    ∙ (ap (λ (ls : Lines). machines_of (left_by held heard memory ls counts unbuilt)) (l ∙ ap (λ (ls : Lines). printed_lines (far_of (network_of held) held.lines.who handle) handle ls) same)
+    ∙ by_far (far_of (network_of held) held.lines.who handle) refl)
+  where
+    after : IsHeard held stepped heard memory (sent_lines held.lines handle bytes) core act ranges
+    after = subst (λ (ls : Lines). IsHeard held stepped heard memory ls core act ranges) same h
+
+    by_far : (far : Option LinkEnd) → far_of (network_of held) held.lines.who handle ≡ far
+        → machines_of (left_by held heard memory (printed_lines (far_of (network_of held) held.lines.who handle) handle (sent_lines held.lines handle bytes)) counts unbuilt)
+        ≡ after_log (network_of held) (map delivered (sent_to (far_of (network_of held) held.lines.who handle) held.lines.who handle bytes)) (after_shown (network_of held) (machines_of held) held.lines.who core)
+    by_far None e = let it = own_end held handle h.is.kept h.is.who sort in let both : None ≡ Some _ = sym e ∙ it.far in absurd cc
+    by_far (Some (Part ref)) e =
+        ap (λ (far : Option LinkEnd). machines_of (left_by held heard memory (printed_lines far handle (sent_lines held.lines handle bytes)) counts unbuilt)) e
+        ∙ (sent_to_part held stepped heard memory core act ranges counts unbuilt handle bytes ref after sort e
+        ∙ ap (λ (far : Option LinkEnd). after_log (network_of held) (map delivered (sent_to far held.lines.who handle bytes)) (after_shown (network_of held) (machines_of held) held.lines.who core)) (sym e))
+    by_far (Some (Console console)) e =
+        ap (λ (far : Option LinkEnd). machines_of (left_by held heard memory (printed_lines far handle (sent_lines held.lines handle bytes)) counts unbuilt)) e
+        ∙ (ap (λ (ls : Lines). machines_of (left_by held heard memory ls counts unbuilt)) (printed_same held handle console bytes h.is.kept h.is.who sort e)
+        ∙ (sent_to_console held stepped heard memory core act ranges counts unbuilt handle bytes console after sort
+        ∙ ap (λ (far : Option LinkEnd). after_log (network_of held) (map delivered (sent_to far held.lines.who handle bytes)) (after_shown (network_of held) (machines_of held) held.lines.who core)) (sym e)))
+
+-- ---- all acts
+
+act_may : (held : Held) (stepped : List Member) (memory : List (List ℕ)) (lines : Lines) (core : ℕ) (act : Told) (ranges : List Wrote) → IsStep held stepped memory lines core act ranges → MayBe (act_of act)
+act_may held stepped memory lines core act ranges is =
+    subst (λ (a : Act). MayBe a) (stepped_so held stepped memory lines core act ranges is).act (step_may (desc_at (network_of held) held.lines.who) (machine_at (machines_of held) held.lines.who) core [])
+
+pub sort_of : (held : Held) (handle : ℕ) → IsSystem held → held.lines.who < length held.parts → kind_at (described_kinds (part_at held.parts held.lines.who).desc.ports) handle ≡ Some kind.Channel
+    → kind_at (kinds_of (wires_at held.lines.wires held.lines.who)) handle ≡ Some kind.Channel
+sort_of held handle kept here sort = ap (λ (ks : List Kind). kind_at ks handle) (kinds_are held held.lines.who kept here) ∙ sort
+
+by_act : (held : Held) (stepped heard rung : List Member) (memory : List (List ℕ)) (lines left : Lines) (core : ℕ) (act : Told) (ranges : List Wrote) (counts new : List Counts) (unbuilt : Option ℕ)
+    → IsHeard held stepped heard memory lines core act ranges → length held.lines.running ≡ length held.parts → MayBe (act_of act) → Did Sends Takes act held.lines lines
+    → HasHandle (described_kinds (part_at held.parts held.lines.who).desc.ports) act
+    → Settles held.wiring held.lines.who act heard rung lines left counts new → IsSettled held rung memory left new unbuilt core act
+unfolding brought
+by_act held stepped heard rung memory lines left core told.None ranges counts new unbuilt h long may did handle s = quiet_settled held stepped heard rung memory lines left core told.None ranges new unbuilt h did s.0 s.1
+by_act held stepped heard rung memory lines left core (told.Sent on bytes) ranges counts new unbuilt h long may did handle s =
+    sent_settled held stepped heard rung memory lines left core on bytes.items (told.Sent on bytes) ranges new unbuilt h (sort_of held on h.is.kept h.is.who handle) did s.0 s.1
+by_act held stepped heard rung memory lines left core (told.Took on count) ranges counts new unbuilt h long may did handle s =
+    taken_settled held stepped heard rung memory lines left core on count (told.Took on count) ranges new unbuilt h (sort_of held on h.is.kept h.is.who handle) did s.0 s.1
+by_act held stepped heard rung memory lines left core (told.Rang on) ranges counts new unbuilt h long may did handle s =
+    rung_settled held stepped heard rung memory lines left core on (told.Rang on) ranges new unbuilt h did s.0 s.1
+by_act held stepped heard rung memory lines left core (told.Start on entry load) ranges counts new unbuilt h long may did handle s = absurd may
+by_act held stepped heard rung memory lines left core (told.Stop on) ranges counts new unbuilt h long may did handle s = absurd may
+by_act held stepped heard rung memory lines left core (told.Restart on) ranges counts new unbuilt h long may did handle s = absurd may
+by_act held stepped heard rung memory lines left core (told.CopyTo on total) ranges counts new unbuilt h long may did handle s =
+    quiet_settled held stepped heard rung memory lines left core (told.CopyTo on total) ranges new unbuilt h did s.0 s.1
+by_act held stepped heard rung memory lines left core (told.CopyFrom on total) ranges counts new unbuilt h long may did handle s =
+    quiet_settled held stepped heard rung memory lines left core (told.CopyFrom on total) ranges new unbuilt h did s.0 s.1
+by_act held stepped heard rung memory lines left core told.SelfStop ranges counts new unbuilt h long may did handle s =
+    ended_settled held stepped heard rung memory lines left core told.SelfStop ranges new unbuilt h long did s.0 s.1
+by_act held stepped heard rung memory lines left core told.SelfRestart ranges counts new unbuilt h long may did handle s = absurd may
+by_act held stepped heard rung memory lines left core told.Faulted ranges counts new unbuilt h long may did handle s =
+    ended_settled held stepped heard rung memory lines left core told.Faulted ranges new unbuilt h long did s.0 s.1
+by_act held stepped heard rung memory lines left core told.NotBuilt ranges counts new unbuilt h long may did handle s = quiet_settled held stepped heard rung memory lines left core told.NotBuilt ranges new unbuilt h did s.0 s.1
+
+-- the machines after a step and all that it brings
+pub settled : (held : Held) (stepped heard rung : List Member) (memory : List (List ℕ)) (lines left : Lines) (core : ℕ) (act : Told) (ranges : List Wrote) (counts new : List Counts) (unbuilt : Option ℕ)
+    → IsHeard held stepped heard memory lines core act ranges → length held.lines.running ≡ length held.parts
+    → Settles held.wiring held.lines.who act heard rung lines left counts new → IsSettled held rung memory left new unbuilt core act
+settled held stepped heard rung memory lines left core act ranges counts new unbuilt h long s =
+    by_act held stepped heard rung memory lines left core act ranges counts new unbuilt h long (act_may held stepped memory lines core act ranges h.is) h.is.step.did h.is.step.handle s

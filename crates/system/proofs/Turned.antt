@@ -1,0 +1,321 @@
+-- A step of the system is the step of its network.
+use Rattle.std.proofs.Common.{◌≡◌, ℕ, ◌+◌, ◌<◌, ◌≤◌, ◌==◌, Bool, true, false, ◌&&◌, if◌then◌else◌, List, [], ◌∷◌, append-nil, length, map, slice_set, Option, Some, None, refl, sym, ap, subst, ◌∙◌, arith}
+use Rattle.std.specs.List.{list_all}
+use Rattle.std.proofs.lemmas.Bool.{and_parts, eqb-true, eqb-false, ltb-true, ltb-false}
+use Rattle.std.proofs.lemmas.List.{length-map, set-get_or, get_or_past}
+use Rattle.std.proofs.lemmas.List.Concat.{flat_map-cons}
+use Rattle.std.specs.Prelude.{nat_lt}
+use Rattle.core_step.specs.declared.answer.Wrote.{Wrote}
+use Rattle.machine_desc.specs.declared.act.Act.{Act as Told}
+use Rattle.machine_desc.specs.declared.act.Act.TheVariants as told
+use Rattle.machine_desc.specs.declared.desc.Desc.{Desc}
+use Rattle.machine_desc.specs.declared.wiring.End.{End as LinkEnd}
+use Rattle.machine_desc.specs.declared.wiring.End.TheVariants.{Part, Console}
+use Rattle.machine_desc.specs.declared.wiring.Link.{Link}
+use Rattle.machine_desc.specs.declared.wiring.Wiring.{Wiring}
+use Rattle.machine_desc.specs.Joined.{is_end, are_ends_apart, is_link_joined, are_links_joined}
+use Rattle.partition.specs.Port.{kinds_of as described_kinds}
+use Rattle.trace_text.specs.Acts.{act_text}
+use Rattle.partition.specs.Act.{Act, act_of, steps_after}
+use Rattle.partition.specs.Machine.{Machine, fresh, most_steps}
+use Rattle.partition.specs.Step.{Stepped, step}
+use Rattle.partition.specs.Reached.{Steps}
+use Rattle.partition.specs.Lending.{Part as Member, Did, HasHandle}
+use Rattle.network.specs.Network.{Network, no_desc, desc_at, ref_to, is_end as is_same_end, far_end}
+use Rattle.network.specs.Change.{Moves}
+use Rattle.network.specs.Report.{act_line, traced_line, act_lines}
+use Rattle.network.specs.World.{Counts, World, Line, Passage, line_of, machine_at, entry_for, delivered, after_entry, after_log}
+use Rattle.network.specs.Effects.{brought, shown, printed_by}
+use Rattle.network.specs.Turn.{done_by, log_of, after_step, after_act, ended, steps_in}
+use Rattle.network.proofs.Logs.{after_both}
+use Rattle.system.specs.Board.{Lines, kinds_of, wires_at, own_kinds, Sends, Takes}
+use Rattle.partition.specs.declared.kind.Kind.{Kind}
+use Rattle.system.specs.declared.wire.Wire.{Wire}
+use Rattle.system.specs.System.{Held, Snapshot, part_at, descs_of, network_of, machines_of, snapshot_of, IsSystem}
+use Rattle.system.specs.Turning.{Follows, HasConsole, Turns}
+use Rattle.system.proofs.Tied.{joined_parts}
+use Rattle.system.proofs.Counted.{CountsStep}
+use Rattle.system.proofs.Opened.{machine_there, machines_length, fresh_steps}
+use Rattle.system.proofs.Shown.{IsStep, after_shown, stepped_so}
+use Rattle.system.proofs.Told.{IsHeard}
+use Rattle.system.proofs.Acts.{left_by, kinds_are}
+use Rattle.system.proofs.Settled.{settled}
+use Rattle.system.proofs.Kept.{descs_stay, counts_step, printed_so, turn_kept}
+
+-- what is built
+abbrev pub IsDone : Told → Type 0
+IsDone told.NotBuilt = ⊥
+IsDone _ = Unit {0}
+
+done_counts : (act : Told) → IsDone act → (n : ℕ) → steps_after (act_of act) n ≡ n + 1
+done_counts told.NotBuilt h n = absurd h
+done_counts _ h n = refl
+
+done_after : (network : Network) (part core : ℕ) (world : World) (done : Stepped) (act : Told) → IsDone act → after_act network part core world done (act_of act) ≡ after_step network part core world done
+done_after network part core world done told.NotBuilt h = absurd h
+done_after network part core world done _ h = refl
+
+-- the passage of a step that is built
+passes : (held : Held) (stepped : List Member) (memory : List (List ℕ)) (lines : Lines) (core : ℕ) (act : Told) (ranges : List Wrote) → IsStep held stepped memory lines core act ranges → IsDone act
+    → steps_in (network_of held) held.lines.who core (snapshot_of held).world
+    ≡ after_step (network_of held) held.lines.who core (snapshot_of held).world (done_by (network_of held) (machines_of held) held.lines.who core)
+unfolding steps_in
+passes held stepped memory lines core act ranges is h =
+    let done : Stepped = done_by (network_of held) (machines_of held) held.lines.who core in
+    ap (after_act (network_of held) held.lines.who core (snapshot_of held).world done) (stepped_so held stepped memory lines core act ranges is).act
+    ∙ done_after (network_of held) held.lines.who core (snapshot_of held).world done act h
+
+-- a console at a far end is there
+end_has : (descs : List Desc) (wiring : Wiring) (end : LinkEnd) → is_end descs wiring end ≡ true → HasConsole (length wiring.consoles) (Some end)
+end_has descs wiring (Part ref) h = tt
+end_has descs wiring (Console number) h = ltb-true number (length wiring.consoles) h
+
+far_has : (descs : List Desc) (wiring : Wiring) (links : List Link) (end : LinkEnd) → list_all (is_link_joined descs wiring) links ≡ true → HasConsole (length wiring.consoles) (far_end links end)
+far_has descs wiring [] end h = tt
+far_has descs wiring (link ∷ links) end h = by_ends (is_same_end end link.a) (is_same_end end link.b) (far_has descs wiring links end parts.1)
+  where
+    parts : (is_link_joined descs wiring link ≡ true) × (list_all (is_link_joined descs wiring) links ≡ true)
+    parts = and_parts (is_link_joined descs wiring link) (list_all (is_link_joined descs wiring) links) h
+
+    both : (is_end descs wiring link.a && is_end descs wiring link.b) ≡ true
+    both = (and_parts (is_end descs wiring link.a && is_end descs wiring link.b) (are_ends_apart link.a link.b) parts.0).0
+
+    ends : (is_end descs wiring link.a ≡ true) × (is_end descs wiring link.b ≡ true)
+    ends = and_parts (is_end descs wiring link.a) (is_end descs wiring link.b) both
+
+    by_ends : (b c : Bool) → HasConsole (length wiring.consoles) (far_end links end) → HasConsole (length wiring.consoles) (if b then Some link.b else if c then Some link.a else far_end links end)
+    by_ends true c rest = end_has descs wiring link.b ends.1
+    by_ends false true rest = end_has descs wiring link.a ends.0
+    by_ends false false rest = rest
+
+pub has_console : (held : Held) (handle : ℕ) → IsSystem held → HasConsole (length held.counts) (far_end held.wiring.links (Part (ref_to held.lines.who handle)))
+unfolding are_links_joined
+has_console held handle kept =
+    subst (λ (n : ℕ). HasConsole n (far_end held.wiring.links (Part (ref_to held.lines.who handle)))) (sym kept.counts)
+    (far_has (descs_of held.parts) held.wiring held.wiring.links (Part (ref_to held.lines.who handle))
+    (and_parts (list_all (is_link_joined (descs_of held.parts) held.wiring) held.wiring.links) _ (joined_parts (descs_of held.parts) held.wiring kept.joined).links).0)
+
+-- no machine's steps rise by more than one
+rises : (old new : Held) → CountsStep old.lines.who old.parts new.parts → (part : ℕ) → (machine_at (machines_of new) part).inner.steps ≤ (machine_at (machines_of old) part).inner.steps + 1
+rises old new step part = by_place (nat_lt part (length old.parts)) refl (part == old.lines.who) refl
+  where
+    olds : part < length old.parts → (machine_at (machines_of old) part).inner.steps ≡ (part_at old.parts part).inner.steps
+    olds there = ap (λ (m : Machine). m.inner.steps) (machine_there old part (fresh no_desc) there)
+
+    news : part < length new.parts → (machine_at (machines_of new) part).inner.steps ≡ (part_at new.parts part).inner.steps
+    news there = ap (λ (m : Machine). m.inner.steps) (machine_there new part (fresh no_desc) there)
+
+    by_place : (b : Bool) → nat_lt part (length old.parts) ≡ b → (c : Bool) → (part == old.lines.who) ≡ c → (machine_at (machines_of new) part).inner.steps ≤ (machine_at (machines_of old) part).inner.steps + 1
+    by_place false e c f =
+        let count = step.count in
+        let past = ltb-false part (length old.parts) e in
+        let long = machines_length new in
+        let none : (machine_at (machines_of new) part).inner.steps ≡ 0 = ap (λ (m : Machine). m.inner.steps) (get_or_past (machines_of new) part (fresh no_desc) (omega (arith, count, past, long))) ∙ fresh_steps no_desc in
+        omega (arith, none)
+    by_place true e false f =
+        let there = ltb-true part (length old.parts) e in
+        let count = step.count in
+        let o = olds there in
+        let n = news (omega (arith, there, count)) in
+        let same = step.others part there (eqb-false part old.lines.who f) in
+        omega (arith, o, n, same)
+    by_place true e true f =
+        let there = ltb-true part (length old.parts) e in
+        let count = step.count in
+        let o = olds there in
+        let n = news (omega (arith, there, count)) in
+        let at = eqb-true part old.lines.who f in
+        let own = step.own in
+        let a : (part_at new.parts part).inner.steps ≡ (part_at new.parts old.lines.who).inner.steps = ap (λ (k : ℕ). (part_at new.parts k).inner.steps) at in
+        let b : (part_at old.parts part).inner.steps ≡ (part_at old.parts old.lines.who).inner.steps = ap (λ (k : ℕ). (part_at old.parts k).inner.steps) at in
+        omega (arith, o, n, own, a, b)
+
+pub turns_built : (held : Held) (stepped rung : List Member) (memory : List (List ℕ)) (lines left : Lines) (core : ℕ) (act : Told) (ranges : List Wrote) (new : List Counts) (unbuilt : Option ℕ)
+    → IsStep held stepped memory lines core act ranges → IsDone act → length held.lines.running ≡ length held.parts → unbuilt ≡ None → lines.who ≡ held.lines.who
+    → (part_at held.parts held.lines.who).inner.steps < most_steps → Follows held.wiring held.lines.who act ranges stepped rung lines left held.counts new
+    → Turns held (left_by held rung memory left new unbuilt) core act
+turns_built held stepped rung memory lines left core act ranges new unbuilt is d long none who few f =
+    let h : IsHeard held stepped f.heard memory lines core act ranges = record { is = is; hears = f.hears } in
+    let network : Network = network_of held in
+    let machines : List Machine = machines_of held in
+    let done : Stepped = done_by network machines held.lines.who core in
+    let so = stepped_so held stepped memory lines core act ranges is in
+    let passage = passes held stepped memory lines core act ranges is d in
+    let descs = descs_stay held stepped f.heard rung memory lines left core act ranges held.counts new h f.settles in
+    let all : machines_of (left_by held rung memory left new unbuilt) ≡ after_log network (map delivered (brought network machines held.lines.who done.act)) (after_shown network machines held.lines.who core) =
+    settled held stepped f.heard rung memory lines left core act ranges held.counts new unbuilt h long f.settles
+    ∙ ap (λ (a : Act). after_log network (map delivered (brought network machines held.lines.who a)) (after_shown network machines held.lines.who core)) (sym so.act) in
+    let logged : after_log network (log_of network machines held.lines.who core done) machines ≡ after_log network (map delivered (brought network machines held.lines.who done.act)) (after_shown network machines held.lines.who core) =
+    after_both network (shown network held.lines.who done) (map delivered (brought network machines held.lines.who done.act)) (after_entry network (entry_for held.lines.who (Moves (Steps core []))) machines) in
+    let counts : new ≡ printed_by network held.lines.who done.act held.counts =
+    printed_so held f.heard rung lines left act held.counts new f.settles ∙ ap (λ (a : Act). printed_by network held.lines.who a held.counts) (sym so.act) in
+    record {
+      system = turn_kept held stepped f.heard rung memory lines left core act ranges new unbuilt h f.settles (done_counts act d) few (λ handle. has_console held handle is.kept);
+      network = ap (λ (l : List Desc). let it : Network = record { descs = l; wiring = held.wiring } in it) descs;
+      world = ap (λ (ms : List Machine). let it : World = record { machines = ms; consoles = new } in it) (all ∙ sym logged)
+          ∙ (ap (λ (cs : List Counts). let it : World = record { machines = after_log network (log_of network machines held.lines.who core done) machines; consoles = cs } in it) counts
+          ∙ ap (λ (p : Passage). p.after) (sym passage));
+      unbuilt = none ∙ ap (λ (p : Passage). p.unbuilt) (sym passage);
+      did = so.act;
+      counted = rises held (left_by held rung memory left new unbuilt) (counts_step held stepped f.heard rung memory lines left core act ranges held.counts new h f.settles (done_counts act d));
+    }
+
+still : (old : Held) (unbuilt : Option ℕ) → IsSystem old → IsSystem (record old { unbuilt = unbuilt })
+still old unbuilt k = record { joined = k.joined; wires = k.wires; running = k.running; channels = k.channels; consoles = k.consoles; counts = k.counts; placed = k.placed; taken = k.taken; counted = k.counted }
+
+machines_still : (old : Held) (unbuilt : Option ℕ) → (snapshot_of (record old { unbuilt = unbuilt })).world ≡ (snapshot_of old).world
+unfolding machines_of
+machines_still old unbuilt = refl
+
+-- a step that isn't built leaves all as it was
+pub turns_unbuilt : (held : Held) (stepped : List Member) (memory : List (List ℕ)) (lines : Lines) (core : ℕ) (ranges : List Wrote) (steps : ℕ) → IsStep held stepped memory lines core told.NotBuilt ranges
+    → steps ≡ (part_at stepped held.lines.who).inner.steps → Turns held (left_by held stepped memory lines held.counts (Some (steps + 1))) core told.NotBuilt
+unfolding steps_in
+turns_unbuilt held stepped memory lines core ranges steps is e =
+    let who : ℕ = held.lines.who in
+    let network : Network = network_of held in
+    let so = stepped_so held stepped memory lines core told.NotBuilt ranges is in
+    let done : Stepped = done_by network (machines_of held) who core in
+    let parts : stepped ≡ held.parts = is.step.parts ∙ (ap (slice_set held.parts who) is.step.kept ∙ set-get_or held.parts who _) in
+    let same : left_by held stepped memory lines held.counts (Some (steps + 1)) ≡ record held { unbuilt = Some (steps + 1) } =
+    ap (λ (ps : List Member). left_by held ps memory lines held.counts (Some (steps + 1))) parts
+    ∙ (ap (λ (m : List (List ℕ)). left_by held held.parts m lines held.counts (Some (steps + 1))) is.step.memory
+    ∙ ap (λ (ls : Lines). left_by held held.parts held.memory ls held.counts (Some (steps + 1))) is.step.did) in
+    let passage : steps_in network who core (snapshot_of held).world ≡ ended who (snapshot_of held).world = ap (after_act network who core (snapshot_of held).world done) so.act in
+    let count : steps ≡ (machine_at (machines_of held) who).inner.steps =
+    e ∙ (ap (λ (p : Member). p.inner.steps) is.step.kept ∙ ap (λ (m : Machine). m.inner.steps) (sym (machine_there held who (fresh no_desc) is.who))) in
+    subst (λ (new : Held). Turns held new core told.NotBuilt) (sym same)
+    (record {
+      system = still held (Some (steps + 1)) is.kept;
+      network = refl;
+      world = machines_still held (Some (steps + 1)) ∙ ap (λ (p : Passage). p.after) (sym passage);
+      unbuilt = ap (λ (n : ℕ). Some (n + 1)) count ∙ ap (λ (p : Passage). p.unbuilt) (sym passage);
+      did = so.act;
+      counted = λ part.
+          let same = ap (λ (w : World). (machine_at w.machines part).inner.steps) (machines_still held (Some (steps + 1))) in
+          omega (arith, same);
+    })
+
+-- ---- what the program asks for
+
+pub record KeepsLent (old new : Lines) : Type 0 where
+  pub who : new.who ≡ old.who
+  pub running : new.running ≡ old.running
+  pub wires : new.wires ≡ old.wires
+
+lent_by : (old new next : Lines) → new ≡ next → KeepsLent old next → KeepsLent old new
+lent_by old new next e k = subst (λ (ls : Lines). KeepsLent old ls) (sym e) k
+
+pub did_keeps : (act : Told) (old new : Lines) → Did Sends Takes act old new → KeepsLent old new
+did_keeps (told.Sent handle bytes) old new did = lent_by old new _ did (record { who = refl; running = refl; wires = refl })
+did_keeps (told.Took handle count) old new did = lent_by old new _ did (record { who = refl; running = refl; wires = refl })
+did_keeps _ old new did = lent_by old new old did (record { who = refl; running = refl; wires = refl })
+
+-- handles of the board are those of the description
+pub lent_kinds : (held : Held) → IsSystem held → held.lines.who < length held.parts → own_kinds held.lines ≡ described_kinds (part_at held.parts held.lines.who).desc.ports
+lent_kinds held kept here = kinds_are held held.lines.who kept here
+
+pub record Asks (held : Held) (lines : Lines) (act : Told) : Type 0 where
+  pub who : lines.who < length lines.running
+  pub handle : HasHandle (own_kinds lines) act
+  pub consoles : (handle : ℕ) → HasConsole (length held.counts) (far_end held.wiring.links (Part (ref_to lines.who handle)))
+
+pub asks : (held : Held) (lines : Lines) (act : Told) → IsSystem held → held.lines.who < length held.parts → Did Sends Takes act held.lines lines
+    → HasHandle (described_kinds (part_at held.parts held.lines.who).desc.ports) act → Asks held lines act
+asks held lines act kept here did handle =
+    let k = did_keeps act held.lines lines did in
+    let running : length lines.running ≡ length held.parts = ap length k.running ∙ kept.running in
+    let who = k.who in
+    let kinds : own_kinds lines ≡ own_kinds held.lines = ap (λ (ws : List (List Wire)). kinds_of (wires_at ws lines.who)) k.wires ∙ ap (λ (n : ℕ). kinds_of (wires_at held.lines.wires n)) k.who in
+    record {
+      who = omega (arith, running, who, here);
+      handle = subst (λ (ks : List Kind). HasHandle ks act) (sym (kinds ∙ lent_kinds held kept here)) handle;
+      consoles = λ h. subst (λ (n : ℕ). HasConsole (length held.counts) (far_end held.wiring.links (Part (ref_to n h)))) (sym k.who) (has_console held h kept);
+    }
+
+pub is_done : (act : Told) → (act ≡ told.NotBuilt → ⊥) → IsDone act
+is_done told.NotBuilt h = h refl
+is_done _ h = tt
+
+-- ---- lent to a partition
+
+abbrev pub lent_to : Held → ℕ → Held
+lent_to held who = record held { lines = record held.lines { who = who } }
+
+pub lent_same : (held : Held) (who : ℕ) → snapshot_of (lent_to held who) ≡ snapshot_of held
+unfolding machines_of
+lent_same held who = refl
+
+pub lent_kept : (held : Held) (who : ℕ) → IsSystem held → IsSystem (lent_to held who)
+lent_kept held who k = record { joined = k.joined; wires = k.wires; running = k.running; channels = k.channels; consoles = k.consoles; counts = k.counts; placed = k.placed; taken = k.taken; counted = record { steps = k.counted.steps; printed = k.counted.printed; entered = k.counted.entered } }
+
+pub inner_there : (held : Held) (now : Snapshot) (part who : ℕ) → snapshot_of held ≡ now → part < length now.network.descs → who ≡ part
+    → (machine_at now.world.machines part).inner ≡ (part_at held.parts who).inner
+inner_there held now part who view here same =
+    let within : part < length (descs_of held.parts) = subst (λ (s : Snapshot). part < length s.network.descs) (sym view) here in
+    let descs : length (descs_of held.parts) ≡ length held.parts = length-map held.parts (λ (p : Member). p.desc) in
+    ap (λ (s : Snapshot). (machine_at s.world.machines part).inner) (sym view)
+    ∙ (ap (λ (m : Machine). m.inner) (machine_there held part (fresh no_desc) (omega (arith, within, descs))) ∙ ap (λ (n : ℕ). (part_at held.parts n).inner) (sym same))
+
+-- ---- the line of a step
+
+agrees : (name : List ℕ) (number : ℕ) (act : Told) → act_text name number act ≡ act_line name number (act_of act)
+agrees name number told.None = refl
+agrees name number _ = refl
+
+one_line : (network : Network) (part number : ℕ) (act : Act) → act_lines network (line_of part (record { step = number; act = act }) ∷ []) ≡ act_line (desc_at network part).name number act
+one_line network part number act =
+    flat_map-cons (λ (line : Line). traced_line (desc_at network line.part).name line.traced) (line_of part (record { step = number; act = act })) []
+    ∙ append-nil (act_line (desc_at network part).name number act)
+
+own_steps : (desc : Desc) (machine : Machine) (core : ℕ) (feed : List ℕ) → (step desc machine core feed).after.inner.steps ≡ steps_after (step desc machine core feed).act machine.inner.steps
+unfolding step
+own_steps desc machine core feed = refl
+
+-- what the definition writes of it
+abbrev DoneLines : Network → World → ℕ → ℕ → Act → List ℕ
+DoneLines network world part core act = act_lines network (after_act network part core world (done_by network world.machines part core) act).lines
+
+abbrev told_line : Network → World → ℕ → Told → List ℕ
+told_line network world part act = act_text (desc_at network part).name ((machine_at world.machines part).inner.steps + 1) act
+
+lined_built : (network : Network) (world : World) (part core : ℕ) (act : Told) → IsDone act → (done_by network world.machines part core).act ≡ act_of act
+    → told_line network world part act ≡ DoneLines network world part core (act_of act)
+lined_built network world part core act d e =
+    let done : Stepped = done_by network world.machines part core in
+    let before : ℕ = (machine_at world.machines part).inner.steps in
+    let name : List ℕ = (desc_at network part).name in
+    let count : done.after.inner.steps ≡ before + 1 = own_steps (desc_at network part) (machine_at world.machines part) core [] ∙ (ap (λ (a : Act). steps_after a before) e ∙ done_counts act d before) in
+    agrees name (before + 1) act
+    ∙ (ap (λ (n : ℕ). act_line name n (act_of act)) (sym count)
+    ∙ (ap (act_line name done.after.inner.steps) (sym e)
+    ∙ (sym (one_line network part done.after.inner.steps done.act) ∙ ap (λ (p : Passage). act_lines network p.lines) (sym (done_after network part core world done act d)))))
+
+lined_as : (network : Network) (world : World) (part core : ℕ) (act : Told) → (done_by network world.machines part core).act ≡ act_of act → told_line network world part act ≡ DoneLines network world part core (act_of act)
+lined_as network world part core told.NotBuilt e = refl
+lined_as network world part core act e = lined_built network world part core act tt e
+
+lined : (network : Network) (world : World) (part core : ℕ) (act : Told) → (done_by network world.machines part core).act ≡ act_of act
+    → told_line network world part act ≡ act_lines network (steps_in network part core world).lines
+unfolding steps_in
+lined network world part core act e = lined_as network world part core act e ∙ ap (DoneLines network world part core) (sym e)
+
+-- a step of the network, by what callers see
+pub record IsTurned (now : Snapshot) (new : Held) (part core : ℕ) (act : Told) : Type 0 where
+  pub world : (snapshot_of new).world ≡ (steps_in now.network part core now.world).after
+  pub unbuilt : new.unbuilt ≡ (steps_in now.network part core now.world).unbuilt
+  pub line : act_text (desc_at now.network part).name ((machine_at now.world.machines part).inner.steps + 1) act ≡ act_lines now.network (steps_in now.network part core now.world).lines
+  pub counted : (other : ℕ) → (machine_at (machines_of new) other).inner.steps ≤ (machine_at now.world.machines other).inner.steps + 1
+
+turned_lent : (held new : Held) (part core : ℕ) (act : Told) → Turns (lent_to held part) new core act → IsTurned (snapshot_of held) new part core act
+turned_lent held new part core act t = record {
+  world = t.world ∙ ap (λ (s : Snapshot). (steps_in (network_of held) part core s.world).after) (lent_same held part);
+  unbuilt = t.unbuilt ∙ ap (λ (s : Snapshot). (steps_in (network_of held) part core s.world).unbuilt) (lent_same held part);
+  line = lined (network_of held) (snapshot_of held).world part core act (ap (λ (s : Snapshot). (done_by (network_of held) s.world.machines part core).act) (sym (lent_same held part)) ∙ t.did);
+  counted = λ other. subst (λ (s : Snapshot). (machine_at (machines_of new) other).inner.steps ≤ (machine_at s.world.machines other).inner.steps + 1) (lent_same held part) (t.counted other);
+}
+
+pub turned_as : (held new : Held) (now : Snapshot) (lines : Lines) (part core : ℕ) (act : Told) → snapshot_of held ≡ now → lines ≡ record held.lines { who = part } → Turns (record held { lines = lines }) new core act
+    → IsTurned now new part core act
+turned_as held new now lines part core act view l t =
+    subst (λ (s : Snapshot). IsTurned s new part core act) view (turned_lent held new part core act (subst (λ (ls : Lines). Turns (record held { lines = ls }) new core act) l t))

@@ -1,0 +1,158 @@
+//! The parts of a turn.
+
+ghost use Rattle.std.specs.Prelude.{◌≡◌, ℕ, ◌<◌, ◌≤◌, None, Some, length};
+ghost use Rattle.core_step.specs.declared.answer.Wrote.{Wrote as WroteValue};
+ghost use Rattle.fresh_load.specs.Placed.{ArePlaced};
+ghost use Rattle.partition.specs.Port.{kinds_of, kind_at};
+ghost use Rattle.partition.specs.Lending.{HasBytes, HasHandle};
+ghost use Rattle.network.specs.Network.{far_end, ref_to};
+ghost use Rattle.network.specs.World.{counts_at};
+ghost use Rattle.network.specs.Effects.{count_printed};
+ghost use Rattle.partition.specs.Machine.{most_steps};
+ghost use Rattle.system.specs.Board.{own_kinds};
+ghost use Rattle.system.specs.System.{part_at, most_counted, IsSystem};
+ghost use Rattle.system.specs.Turning.{AfterStep, Follows, Hears, HasConsole, Settles, Turns, held_of, printed_lines};
+
+use crate::board::Board;
+use crate::counts::Counts;
+use crate::ringing::ring_all;
+use crate::wiring::far_end;
+use core_step::Wrote;
+use ground::Ground;
+use machine_desc::{Act, End, Link, PortRef, State, Wiring};
+use partition::{Acts, Kind, Partition};
+
+/// A step of a core of the partition that the board is lent to.
+pub fn step_part(
+    parts: &mut Vec<Partition>,
+    memory: &mut Ground,
+    board: &mut Board,
+    who: usize,
+    core: usize,
+) -> Acts
+    requires lent { board.old.who ≡ who }
+    requires who { who < length parts.old.items }
+    requires core { core < length (part_at parts.old.items who).inner.cores }
+    requires running { (part_at parts.old.items who).inner.state ≡ State.Running }
+    requires few { (part_at parts.old.items who).inner.steps < most_steps }
+    requires placed { ArePlaced memory.old (part_at parts.old.items who).desc.regions }
+    requires kinds { own_kinds board.old ≡ kinds_of (part_at parts.old.items who).desc.ports }
+    ensures { AfterStep parts.old.items parts.new.items memory.old memory.new board.old board.new core result.act result.shared.items }
+{
+    let part = &mut parts[who];
+    part.step(core, memory, board)
+}
+
+/// Each partition but one hears what that one stored in shared areas. Goes over them only where it stored something there.
+pub fn tell_stored(parts: &mut Vec<Partition>, who: usize, stored: &[Wrote])
+    ensures { Hears who stored.now parts.old.items parts.new.items }
+{
+    if stored.is_empty() {
+        return;
+    }
+    for part in 0..parts.len() {
+        if part != who {
+            parts[part].written(stored);
+        }
+    }
+}
+
+/// A console at the far end of a handle prints so many bytes at once, and counts them.
+fn print(board: &mut Board, counts: &mut Vec<Counts>, links: &[Link], handle: PortRef, count: usize)
+    requires lent { board.old.who ≡ handle.part }
+    requires channel { kind_at (own_kinds board.old) handle.handle ≡ Some Kind.Channel }
+    requires consoles { HasConsole (length counts.old.items) (far_end links.now (End.Part handle)) }
+    requires few { (console : ℕ) → (counts_at counts.old.items console).printed < most_counted }
+    requires bytes { count ≤ 16 }
+    ensures board { board.new ≡ printed_lines (far_end links.now (End.Part handle)) handle.handle board.old }
+    ensures counts { counts.new.items ≡ count_printed (far_end links.now (End.Part handle)) count counts.old.items }
+{
+    if let Some(End::Console(console)) = far_end(links, End::Part(handle)) {
+        board.print(handle.handle);
+        counts[console].print(count);
+    }
+}
+
+/// What others than the stepping partition get of its act.
+pub fn settle(
+    parts: &mut Vec<Partition>,
+    board: &mut Board,
+    counts: &mut Vec<Counts>,
+    wiring: &Wiring,
+    act: &Act,
+)
+    requires who { board.old.who < length board.old.running }
+    requires handle { HasHandle (own_kinds board.old) act.now }
+    requires bytes { HasBytes act.now }
+    requires consoles { (handle : ℕ) → HasConsole (length counts.old.items) (far_end wiring.now.links (End.Part (ref_to board.old.who handle))) }
+    requires few { (console : ℕ) → (counts_at counts.old.items console).printed < most_counted }
+    ensures { Settles wiring.now board.old.who act.now parts.old.items parts.new.items board.old board.new counts.old.items counts.new.items }
+{
+    let who = board.who();
+    match act {
+        Act::Sent { h, bytes } => {
+            let handle = PortRef {
+                part: who,
+                handle: *h,
+            };
+            print(board, counts, wiring.links.as_slice(), handle, bytes.len());
+        }
+        Act::Rang { h } => {
+            let sender = PortRef {
+                part: who,
+                handle: *h,
+            };
+            ring_all(parts, wiring.bells.as_slice(), sender);
+        }
+        Act::SelfStop | Act::Faulted => board.mark(who, false),
+        _ => {}
+    }
+}
+
+/// The others hear of a step's stores and of its act.
+fn follow(
+    parts: &mut Vec<Partition>,
+    board: &mut Board,
+    counts: &mut Vec<Counts>,
+    wiring: &Wiring,
+    act: &Act,
+    stored: &[Wrote],
+)
+    requires who { board.old.who < length board.old.running }
+    requires handle { HasHandle (own_kinds board.old) act.now }
+    requires bytes { HasBytes act.now }
+    requires consoles { (handle : ℕ) → HasConsole (length counts.old.items) (far_end wiring.now.links (End.Part (ref_to board.old.who handle))) }
+    requires few { (console : ℕ) → (counts_at counts.old.items console).printed < most_counted }
+    ensures { Follows wiring.now board.old.who act.now stored.now parts.old.items parts.new.items board.old board.new counts.old.items counts.new.items }
+{
+    tell_stored(parts, board.who(), stored);
+    settle(parts, board, counts, wiring, act);
+}
+
+/// A step of a core of the partition that the board is lent to, and all that it brings. A step that isn't built is noted.
+pub fn step_all(
+    parts: &mut Vec<Partition>,
+    memory: &mut Ground,
+    board: &mut Board,
+    counts: &mut Vec<Counts>,
+    unbuilt: &mut Option<u64>,
+    wiring: &Wiring,
+    core: usize,
+) -> Act
+    requires system { IsSystem (held_of parts.old.items memory.old board.old wiring.now counts.old.items unbuilt.old) }
+    requires who { board.old.who < length parts.old.items }
+    requires core { core < length (part_at parts.old.items board.old.who).inner.cores }
+    requires running { (part_at parts.old.items board.old.who).inner.state ≡ State.Running }
+    requires few { (part_at parts.old.items board.old.who).inner.steps < most_steps }
+    requires going { unbuilt.old ≡ None }
+    ensures { Turns (held_of parts.old.items memory.old board.old wiring.now counts.old.items unbuilt.old)
+        (held_of parts.new.items memory.new board.new wiring.now counts.new.items unbuilt.new) core result }
+{
+    let who = board.who();
+    let Acts { act, shared } = step_part(parts, memory, board, who, core);
+    match act {
+        Act::NotBuilt => *unbuilt = Some(parts[who].steps() + 1),
+        _ => follow(parts, board, counts, wiring, &act, shared.as_slice()),
+    }
+    act
+}
