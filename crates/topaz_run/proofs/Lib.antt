@@ -2,10 +2,7 @@ pub mod Choices
 pub mod Plans
 pub mod Lines
 pub mod Spellings
-pub mod Freed
-pub mod Counts
 pub mod BuiltIns
-pub mod Turns
 pub mod Blobs
 pub mod Checks
 pub mod GoingOn
@@ -14,6 +11,11 @@ pub mod Joins
 pub mod Described
 pub mod Texts
 pub mod Imaged
-pub mod Single
+pub mod Done
+pub mod Rounds
+pub mod Stays
+pub mod Cores
+pub mod Reports
+pub mod Scripted
+pub mod Ran
 pub mod NamedLines
-pub mod Ringing

@@ -11,11 +11,14 @@ use Rattle.hv_config.specs.declared.fault.Fault.{Fault}
 use Rattle.hv_config.specs.declared.fault.Fault.TheVariants as fault
 use Rattle.elf_image.specs.declared.fault.ImageFault.{ImageFault}
 use Rattle.elf_image.specs.declared.fault.ImageFault.TheVariants as image
+use Rattle.script.specs.declared.fault.ScriptFault.{ScriptFault}
+use Rattle.script.specs.declared.fault.ScriptFault.TheVariants as script
 use Rattle.hv_read.specs.declared.misread.Misread.{Misread}
 use Rattle.hv_read.specs.declared.misread.Misread.TheVariants as misread
 use Rattle.topaz_run.specs.Plan.{Outcome, Misused, Lacking, Refused, Done, Plan, refusal, outcome_of, needs_of}
 use Rattle.topaz_run.specs.Imaging.{image_rule}
-use Rattle.topaz_run.specs.Outcome.{blob_rule, rule_text}
+use Rattle.topaz_run.specs.Text.{line_place}
+use Rattle.topaz_run.specs.Outcome.{blob_rule, rule_text, script_rule}
 
 -- an early end of a command is the outcome's refusal, but for a fault and want of memory
 abbrev pub Stops : Stop → Outcome → Type 0
@@ -32,6 +35,11 @@ RefusesFault fault.NoMemory end = end ≡ stop.NoMemory
 abbrev pub RefusesImage : List ℕ → ImageFault → Stop → Type 0
 RefusesImage place (image.Rule number) end = Stops end (refusal (image_rule number) place)
 RefusesImage place image.NoMemory end = end ≡ stop.NoMemory
+
+-- the early end refuses by the rule of scripts that the fault tells, at its line
+abbrev pub RefusesScript : ScriptFault → Stop → Type 0
+RefusesScript (script.Rule number line) end = Stops end (refusal (script_rule number) (line_place line))
+RefusesScript script.NoMemory end = end ≡ stop.NoMemory
 
 -- by this rule of images, at the place; where none is broken there was no memory
 abbrev pub StopsBy : List ℕ → Stop → Option ℕ → Type 0

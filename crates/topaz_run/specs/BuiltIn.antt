@@ -5,6 +5,8 @@ use Rattle.machine_desc.specs.declared.desc.Region.{Region}
 use Rattle.machine_desc.specs.declared.desc.Port.TheVariants.{Channel}
 use Rattle.machine_desc.specs.declared.wiring.End.TheVariants.{Part, Console}
 use Rattle.machine_desc.specs.declared.wiring.Wiring.{Wiring}
+use Rattle.network.specs.Network.{Network}
+use Rattle.script.specs.declared.names.Names.{Names}
 
 abbrev pub memory_size : ℕ
 memory_size = 65536
@@ -36,6 +38,10 @@ built_in_wiring = record {
   consoles = codes "con" ∷ [];
 }
 
--- the schedule of its one core
-abbrev pub built_in_schedule : List ℕ
-built_in_schedule = 0 ∷ []
+-- nothing is joined to it
+unfoldable pub built_in_network : List ℕ → Network
+built_in_network image = record { descs = built_in image ∷ []; wiring = built_in_wiring }
+
+-- its console, and its core, which has every turn
+unfoldable pub built_in_names : Names
+built_in_names = record { consoles = codes "con" ∷ []; cpus = 0 ∷ [] }

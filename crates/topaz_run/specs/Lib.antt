@@ -3,11 +3,12 @@ pub mod Text
 pub mod Gathered
 pub mod Words
 pub mod Meant
-pub mod Printed
-pub mod Report
 pub mod BuiltIn
 pub mod Plan
 pub mod Imaging
+pub mod Reported
 pub mod Outcome
 pub mod Answers
+pub mod Runs
+pub mod Turns
 pub mod Laws

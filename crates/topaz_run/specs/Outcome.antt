@@ -15,25 +15,26 @@ use Rattle.config_descs.specs.Numbered.{part_named}
 use Rattle.config_descs.specs.Wired.{wiring_of}
 use Rattle.machine_desc.specs.declared.desc.Desc.{Desc}
 use Rattle.guest_tree.specs.Guest.{guest_blob}
+use Rattle.network.specs.Network.{Network}
+use Rattle.script.specs.declared.names.Names.{Names}
+use Rattle.script.specs.Text.{lines_of}
+use Rattle.script.specs.Course.{course_of}
+use Rattle.script.specs.Fault.{Broken, first_broken as first_broken_line}
 use Rattle.topaz_run.specs.declared.setup.Setup.{Setup}
 use Rattle.topaz_run.specs.Words.{Command, Bare, Dtb, Check, Guest, Run, command_of}
-use Rattle.topaz_run.specs.Text.{accepted_line}
-use Rattle.topaz_run.specs.Report.{run, opening}
+use Rattle.topaz_run.specs.Text.{accepted_line, line_place}
+use Rattle.topaz_run.specs.Reported.{given_by, reported}
 use Rattle.topaz_run.specs.Imaging.{imaging}
-use Rattle.topaz_run.specs.BuiltIn.{memory_size, built_in, built_in_wiring, built_in_schedule}
+use Rattle.topaz_run.specs.BuiltIn.{memory_size, built_in_network, built_in_names}
 use Rattle.topaz_run.specs.Plan.{Outcome, Misused, Lacking, Refused, Done, Plan, Ends, Opens, refusal, outcome_of, needs_of}
 
 -- ---- bare
 
--- a run's text is refused where one of its steps isn't built
-abbrev pub reported : Bool → List ℕ → Outcome
-reported is_built text = if is_built then Done text else Refused text
-
--- the built-in machine on an image: I4 where it doesn't fit the memory
+-- the built-in machine on an image, whose script has no line: I4 where it doesn't fit the memory
 unfoldable pub bare : List ℕ → ℕ → List ℕ → Outcome
 bare name turns image =
     if nat_lt memory_size (length image) then refusal (codes "I4") name
-    else let whole = run built_in_schedule turns 0 (opening (built_in image) built_in_wiring) in reported whole.is_built whole.text
+    else reported (built_in_network image) (given_by (course_of built_in_names [])) turns
 
 -- ---- dtb
 
@@ -55,6 +56,10 @@ abbrev pub dtb : List ℕ → List ℕ → Outcome
 dtb name bytes = rewriting name bytes (first_fault bytes)
 
 -- ---- check
+
+-- a rule of scripts by its number
+abbrev pub script_rule : ℕ → List ℕ
+script_rule number = codes "S" ++ decimal number
 
 -- a rule by its letter and its number
 abbrev pub rule_text : Rule → List ℕ
@@ -115,30 +120,31 @@ showing config hw name = accepting config hw (λ setup. Ends (guest name setup.a
 
 -- ---- run
 
--- the cpus of the hardware in its order, usable or not: where a script has no order of its own, they take turns so
-abbrev pub all_cpus : Board → List ℕ
-all_cpus board = map (λ (cpu : Cpu). cpu.number) board.cpus
+-- the descriptions of an accepted configuration's partitions, with its wiring
+abbrev pub network_for : Setup → List Desc → Network
+network_for setup descs = record { descs = descs; wiring = wiring_of setup.accepted }
 
--- the report of the partition with this description
-abbrev pub report : Setup → ℕ → Desc → Outcome
-report setup turns desc =
-    let whole = run (all_cpus setup.board) turns 0 (opening desc (wiring_of setup.accepted)) in reported whole.is_built whole.text
+-- what a script may name: the consoles of the configuration, and the cpus of the hardware, usable or not
+abbrev pub names_for : Setup → Names
+names_for setup = record { consoles = (wiring_of setup.accepted).consoles; cpus = map (λ (cpu : Cpu). cpu.number) setup.board.cpus }
 
--- N2, until several partitions run: at the configuration where it hasn't one partition, else at the script where that has a byte
-abbrev pub reporting : List ℕ → List ℕ → ℕ → Setup → List Desc → List ℕ → Outcome
-reporting config script turns setup (desc ∷ []) [] = report setup turns desc
-reporting config script turns setup (desc ∷ []) (byte ∷ bytes) = refusal (codes "N2") script
-reporting config script turns setup _ bytes = refusal (codes "N2") config
+-- by the first rule that the lines of the script break, or else the report
+abbrev pub following : ℕ → Setup → List Desc → List (List ℕ) → Option Broken → Outcome
+following turns setup descs lines (Some broken) = refusal (script_rule broken.number) (line_place broken.line)
+following turns setup descs lines None = reported (network_for setup descs) (given_by (course_of (names_for setup) lines)) turns
+
+abbrev pub reporting : ℕ → Setup → List Desc → List (List ℕ) → Outcome
+reporting turns setup descs lines = following turns setup descs lines (first_broken_line (names_for setup) lines)
 
 -- the script is read once the partitions are described
-abbrev pub scripted : List ℕ → List ℕ → ℕ → Setup → List Desc → Plan
-scripted config script turns setup descs = Opens script script (λ bytes. Ends (reporting config script turns setup descs bytes))
+abbrev pub scripted : List ℕ → ℕ → Setup → List Desc → Plan
+scripted script turns setup descs = Opens script script (λ bytes. Ends (reporting turns setup descs (lines_of bytes)))
 
-abbrev pub imaged : List ℕ → List ℕ → ℕ → Setup → Plan
-imaged config script turns setup = imaging setup.accepted setup.accepted.parts [] (λ descs. scripted config script turns setup descs)
+abbrev pub imaged : List ℕ → ℕ → Setup → Plan
+imaged script turns setup = imaging setup.accepted setup.accepted.parts [] (λ descs. scripted script turns setup descs)
 
 abbrev pub running : List ℕ → List ℕ → List ℕ → ℕ → Plan
-running config hw script turns = accepting config hw (λ setup. imaged config script turns setup)
+running config hw script turns = accepting config hw (λ setup. imaged script turns setup)
 
 -- ---- every command
 

@@ -6,6 +6,6 @@ abbrev pub accepted_line : ℕ → ℕ → ℕ → ℕ → List ℕ
 accepted_line parts areas channels bells =
     codes "accepted " ++ (decimal parts ++ (codes " " ++ (decimal areas ++ (codes " " ++ (decimal channels ++ (codes " " ++ (decimal bells ++ codes "\n")))))))
 
--- the place of a partition's own step
-abbrev pub step_place : ℕ → List ℕ
-step_place step = codes "step " ++ decimal step
+-- the place of a script's line, counted from 1
+abbrev pub line_place : ℕ → List ℕ
+line_place line = codes "line " ++ decimal line

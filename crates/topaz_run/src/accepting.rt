@@ -1,14 +1,15 @@
 //! Accepting a configuration: what each command begins with that has one.
 
-ghost use Rattle.std.specs.Prelude.{◌≡◌, ◌≢◌, ◌≤◌, IfErr, IfOk, IfSome, IsErrOf, Contains};
+ghost use Rattle.std.specs.Prelude.{◌≡◌, ◌≢◌, ◌≤◌, IfErr, IfOk, IfSome, IsErrOf, OnOk, Contains};
 ghost use Rattle.hv_config.specs.Plain.{IsPlain};
-ghost use Rattle.hv_read.specs.Read.{config_flaw, hardware_flaw};
+ghost use Rattle.hv_read.specs.Read.{config_flaw, config_said, hardware_flaw};
 ghost use Rattle.outside.specs.Fault.{Rose};
 ghost use Rattle.outside.specs.Content.{Content};
 ghost use Rattle.config_checks.specs.Rules.{first_broken};
 ghost use Rattle.topaz_run.specs.declared.setup.Setup.{Setup as SetupValue};
 ghost use Rattle.topaz_run.specs.Plan.{Plan, outcome_of, needs_of};
 ghost use Rattle.topaz_run.specs.Outcome as spec;
+ghost use Rattle.topaz_run.specs.Runs.{bytes_in};
 ghost use Rattle.topaz_run.specs.Answers.{GoesOn, Stops};
 
 use crate::read::read_word;
@@ -37,6 +38,7 @@ pub fn read_accepted<F: Files>(
     ensures needed { IsErrOf result Stop.ReadFault → IfSome (F.content files.old) (λ content.
         (next : SetupValue → Plan) → Contains (needs_of content (spec.accepting config.now hw.now next)) (F.blamed files.new)) }
     ensures counted { F.faults files.old ≤ F.faults files.new }
+    ensures plain { OnOk result (IfSome (F.content files.old) (λ content. IsPlain (config_said (bytes_in content config.now)))) }
     ensures content { F.content files.new ≡ F.content files.old }
 {
     let bytes = read_word(alloc, files, config)?;
@@ -59,6 +61,7 @@ fn accept_bytes<F: Files>(
     ensures needed { IsErrOf result Stop.ReadFault → IfSome (F.content files.old) (λ content.
         (next : SetupValue → Plan) → Contains (needs_of content (spec.configured config.now hw.now next bytes.now (config_flaw bytes.now))) (F.blamed files.new)) }
     ensures counted { F.faults files.old ≤ F.faults files.new }
+    ensures plain { OnOk result (IsPlain (config_said bytes.now)) }
     ensures content { F.content files.new ≡ F.content files.old }
 {
     match read_config(alloc, bytes) {

@@ -7,12 +7,13 @@ ghost use Rattle.topaz_run.specs.Plan.{outcome_of, needs_of};
 ghost use Rattle.topaz_run.specs.Outcome.{bare, plan_of};
 ghost use Rattle.topaz_run.specs.Answers.{Meets};
 
-use crate::built_in::{MEMORY_SIZE, description, wiring};
+use crate::built_in::{MEMORY_SIZE, description, names, one, wiring};
 use crate::read::read_word;
 use crate::refuse::refused;
 use crate::report::report;
 use crate::status::Stop;
 use outside::{Bytes, Files};
+use script::Script;
 use std::alloc::Global;
 
 /// Reads the image of that name, and answers what its run writes.
@@ -38,7 +39,11 @@ fn run_image(alloc: Global, name: &str, image: &[u8], turns: u64) -> Result<Byte
     if image.len() > MEMORY_SIZE as usize {
         return Err(refused(alloc, "I4", name));
     }
-    let desc = description(alloc, image)?;
+    let descs = one(alloc, description(alloc, image)?)?;
     let wiring = wiring(alloc)?;
-    report(alloc, desc, wiring, &[0], turns)
+    let names = names(alloc)?;
+    match Script::read(alloc, b"", &names) {
+        Ok(script) => report(alloc, descs.into_vec(), wiring, &script, turns),
+        Err(_fault) => Err(Stop::NoMemory),
+    }
 }

@@ -6,13 +6,14 @@ ghost use Rattle.topaz_run.specs.BuiltIn as spec;
 
 use machine_desc::{Desc, End, Link, Piece, Port, PortRef, Region, Wiring};
 use outside::{Bytes, Listed, NoMemory};
+use script::Names;
 use std::alloc::Global;
 
 /// How many bytes of memory it has, from logical address 0.
 pub const MEMORY_SIZE: u32 = 65_536;
 
 /// A list of one element.
-fn one<T: Drop>(alloc: Global, item: T) -> Result<Listed<T>, NoMemory>
+pub fn one<T: Drop>(alloc: Global, item: T) -> Result<Listed<T>, NoMemory>
     ensures { IfOk result (λ list. list ≡ item ∷ []) }
 {
     let mut list = Vec::with_capacity(alloc, 1)?;
@@ -71,5 +72,16 @@ pub fn wiring(alloc: Global) -> Result<Wiring, NoMemory>
         bells: Listed::new(alloc),
         managers: one(alloc, None)?,
         consoles: one(alloc, Bytes::of(alloc, b"con")?)?,
+    })
+}
+
+/// What a script of it may name: its console, and its core.
+#[tactic(auto, unfolding(crate::specs::BuiltIn::built_in_names))]
+pub fn names(alloc: Global) -> Result<Names, NoMemory>
+    ensures { IfOk result (λ names. names ≡ spec.built_in_names) }
+{
+    Ok(Names {
+        consoles: one(alloc, Bytes::of(alloc, b"con")?)?,
+        cpus: one(alloc, 0)?,
     })
 }

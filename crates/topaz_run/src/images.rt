@@ -212,3 +212,168 @@ pub const USER: [u32; 36] = [
     0x4800_0000, // b 88
     0x4869_0000, // "Hi"
 ];
+
+/// Sends sixteen bytes sixteen times on handle 1, and then one more. On handle 2 it sends the status and the count of the last
+/// call, and then how many bytes handle 1 takes.
+pub const FILL: [u32; 29] = [
+    0x38A0_0000,
+    0x38C0_0000,
+    0x38E0_0000,
+    0x3900_0000,
+    0x3D60_0001,
+    0x616B_0001,
+    0x3A80_0010,
+    0x7E89_03A6,
+    0x3860_0001,
+    0x3880_0010,
+    0x4400_0022,
+    0x4200_FFF4,
+    0x3860_0001,
+    0x3880_0001,
+    0x4400_0022,
+    0x7C65_1B78,
+    0x7C86_2378,
+    0x3860_0002,
+    0x3880_0008,
+    0x4400_0022,
+    0x616B_0003,
+    0x3860_0001,
+    0x4400_0022,
+    0x3D60_0001,
+    0x616B_0001,
+    0x3860_0002,
+    0x3880_0004,
+    0x4400_0022,
+    0x4800_0000,
+];
+
+/// Takes five bytes from handle 1.
+pub const TAKE: [u32; 6] = [
+    0x3D60_0001,
+    0x616B_0002,
+    0x3860_0001,
+    0x3880_0005,
+    0x4400_0022,
+    0x4800_0000,
+];
+
+/// Sends a byte on handle 2, and then goes on as `PASS` does.
+pub const START: [u32; 22] = [
+    0x3D60_0001,
+    0x616B_0001,
+    0x3860_0002,
+    0x3880_0001,
+    0x3CA0_4100,
+    0x4400_0022,
+    0x3D60_0001,
+    0x616C_0002,
+    0x7D8B_6378,
+    0x3860_0001,
+    0x3880_0001,
+    0x4400_0022,
+    0x3D60_0001,
+    0x2804_0000,
+    0x4182_FFE4,
+    0x3CA5_0100,
+    0x616B_0001,
+    0x3860_0002,
+    0x3880_0001,
+    0x4400_0022,
+    0x3D60_0001,
+    0x4BFF_FFC8,
+];
+
+/// Takes a byte from handle 1, adds one, and sends it on handle 2, for ever.
+pub const PASS: [u32; 16] = [
+    0x3D60_0001,
+    0x616C_0002,
+    0x7D8B_6378,
+    0x3860_0001,
+    0x3880_0001,
+    0x4400_0022,
+    0x3D60_0001,
+    0x2804_0000,
+    0x4182_FFE4,
+    0x3CA5_0100,
+    0x616B_0001,
+    0x3860_0002,
+    0x3880_0001,
+    0x4400_0022,
+    0x3D60_0001,
+    0x4BFF_FFC8,
+];
+
+/// Takes up to four bytes from handle 1, and sends them on it, for ever.
+pub const ECHO: [u32; 14] = [
+    0x3D60_0001,
+    0x616C_0002,
+    0x7D8B_6378,
+    0x3860_0001,
+    0x3880_0004,
+    0x4400_0022,
+    0x3D60_0001,
+    0x2804_0000,
+    0x4182_FFE4,
+    0x616B_0001,
+    0x3860_0001,
+    0x4400_0022,
+    0x3D60_0001,
+    0x4BFF_FFD0,
+];
+
+/// Reserves 0x20040, stores there by condition, and sends the condition register on handle 1.
+pub const HOLD: [u32; 11] = [
+    0x3D20_0002,
+    0x6129_0040,
+    0x7D40_4828,
+    0x7D40_492D,
+    0x7CA0_0026,
+    0x3D60_0001,
+    0x616B_0001,
+    0x3860_0001,
+    0x3880_0004,
+    0x4400_0022,
+    0x4800_0000,
+];
+
+/// Looks at 0x50044 until it isn't zero, and sends it on handle 1.
+pub const LOOK: [u32; 10] = [
+    0x3D20_0005,
+    0x80A9_0044,
+    0x2805_0000,
+    0x4182_FFF8,
+    0x3D60_0001,
+    0x616B_0001,
+    0x3860_0001,
+    0x3880_0004,
+    0x4400_0022,
+    0x4800_0000,
+];
+
+/// Rings the doorbell of handle 2.
+pub const RING: [u32; 5] = [
+    0x3D60_0001,
+    0x616B_000E,
+    0x3860_0002,
+    0x4400_0022,
+    0x4800_0000,
+];
+
+/// Unmasks interrupt 2, asks which one is chosen, and sends its number on handle 1.
+pub const HEAR: [u32; 15] = [
+    0x3D60_0001,
+    0x616B_0006,
+    0x3860_0002,
+    0x3880_0000,
+    0x4400_0022,
+    0x3D60_0001,
+    0x616B_0009,
+    0x4400_0022,
+    0x7C85_2378,
+    0x3D60_0001,
+    0x616B_0001,
+    0x3860_0001,
+    0x3880_0004,
+    0x4400_0022,
+    0x4800_0000,
+];

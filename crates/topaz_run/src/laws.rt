@@ -1,8 +1,9 @@
 //! Laws of the definitions. Each is a function whose contract is the law.
 
-ghost use Rattle.topaz_run.specs.Laws.{DescribedAreJoined, DescribedAreNamed};
+ghost use Rattle.topaz_run.specs.Laws.{DescribedAreJoined, DescribedAreNamed, DoneRunsPrintAlone};
 
 use config_rules::{accepted_keep_names, accepted_keep_parts, descriptions_are_joined};
+use network::lines_are_of_own_moves;
 
 /// The descriptions that images and device trees complete, of the partitions of an accepted configuration, are joined
 /// with its wiring.
@@ -18,4 +19,13 @@ pub fn described_partitions_are_named()
     ensures { DescribedAreNamed }
 {
     accepted_keep_names();
+}
+
+/// A run that is done writes the report of the network that the files describe; the lines of each partition without shared
+/// areas are what its lone machine prints along the moves that the run gave it.
+pub fn done_runs_print_alone()
+    ensures { DoneRunsPrintAlone }
+{
+    described_partitions_are_named();
+    lines_are_of_own_moves();
 }

@@ -3,17 +3,15 @@
 //!
 //! It stands on `outside` (files and sinks), `machine_desc` and `partition` (the machine), `dt_model`, `dt_read` and
 //! `dt_write` (blobs), `hv_config`, `hv_read` and `config_rules` (configurations and hardware), `guest_tree` (device trees of
-//! guests), and `elf_image` and `fresh_load` (images). Its contract is the main theorem: the status and the bytes written
+//! guests), `elf_image` and `fresh_load` (images), and `script` and `system` (runs). Its contract is the main theorem: the status and the bytes written
 //! are those of `outcome`, in `specs/Outcome.antt`, and each other answer has its cause.
 #![tactic(auto)]
 
 mod accepting;
 mod bare;
-mod bells;
 mod built_in;
 mod check;
 mod command;
-mod consoles;
 mod deliver;
 mod dtb;
 mod gathered;
@@ -29,15 +27,19 @@ mod setup;
 mod status;
 mod text;
 mod top_call;
+mod turns;
 mod words;
-mod world;
 
-pub use laws::{described_partitions_are_joined, described_partitions_are_named};
+pub use laws::{
+    described_partitions_are_joined, described_partitions_are_named, done_runs_print_alone,
+};
 pub use status::Status;
 pub use top_call::topaz;
 
 #[cfg(test)]
 mod blob_tests;
+#[cfg(test)]
+mod bundles;
 #[cfg(test)]
 mod check_blobs;
 #[cfg(test)]

@@ -2,16 +2,18 @@
 
 ghost use Rattle.std.specs.Prelude.{◌≡◌, ◌≢◌};
 ghost use Rattle.topaz_run.specs.Plan.{refusal};
-ghost use Rattle.topaz_run.specs.Outcome.{blob_rule, rule_text};
-ghost use Rattle.topaz_run.specs.Answers.{RefusesFault, RefusesImage, RefusesMisread, Stops};
+ghost use Rattle.topaz_run.specs.Outcome.{blob_rule, rule_text, script_rule};
+ghost use Rattle.topaz_run.specs.Text.{line_place};
+ghost use Rattle.topaz_run.specs.Answers.{RefusesFault, RefusesImage, RefusesMisread, RefusesScript, Stops};
 
 use crate::gathered::Gathered;
 use crate::status::Stop;
-use crate::text::{write_refused_blob, write_refused_rule};
+use crate::text::{write_refused_blob, write_refused_rule, write_refused_script};
 use elf_image::ImageFault;
 use hv_config::{Fault, Rule};
 use hv_read::Misread;
 use outside::Failed;
+use script::ScriptFault;
 use std::alloc::Global;
 use trace_text::refused_line;
 
@@ -85,6 +87,29 @@ pub fn refused_image(alloc: Global, fault: ImageFault, place: &[u8]) -> Stop
             place,
         ),
         ImageFault::NoMemory => Stop::NoMemory,
+    }
+}
+
+/// The script is refused by the fault.
+pub fn refused_script(alloc: Global, fault: ScriptFault) -> Stop
+    ensures refusal { RefusesScript fault result }
+    ensures no_fault { result ≢ Stop.ReadFault }
+{
+    match fault {
+        ScriptFault::Rule { number, line } => refused_line_of(alloc, number, line),
+        ScriptFault::NoMemory => Stop::NoMemory,
+    }
+}
+
+/// The script breaks its rule of that number at the line.
+fn refused_line_of(alloc: Global, rule: u8, line: u32) -> Stop
+    ensures refusal { Stops result (refusal (script_rule rule) (line_place line)) }
+    ensures no_fault { result ≢ Stop.ReadFault }
+{
+    let mut text = Gathered::new(alloc);
+    match write_refused_script(&mut text, rule, line) {
+        Ok(()) => Stop::Refused(text.into_bytes()),
+        Err(Failed) => Stop::NoMemory,
     }
 }
 

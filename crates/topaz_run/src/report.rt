@@ -1,70 +1,97 @@
-//! The report of a partition's run.
+//! The report of a run.
 
-ghost use Rattle.std.specs.Prelude.{◌≡◌, ◌≢◌, ◌≤◌, true, length, IfErr};
-ghost use Rattle.ground.specs.Extents.{AreSmall};
-ghost use Rattle.machine_desc.specs.Sound.{IsSound};
-ghost use Rattle.partition.specs.Loading.{have_extents};
+ghost use Rattle.std.specs.Prelude.{◌≡◌, ◌≢◌, ℕ, ◌≤◌, List, ◌++◌, codes, length, IfErr, IfOk};
+ghost use Rattle.machine_desc.specs.Joined.{AreJoined};
+ghost use Rattle.trace_text.specs.Refusals.{refused_line};
+ghost use Rattle.network.specs.Turn.{run};
+ghost use Rattle.network.specs.Report.{act_lines, end_lines, step_place};
+ghost use Rattle.system.specs.System.{HaveOneCore};
+ghost use Rattle.system.specs.Shown.{Waits};
 ghost use Rattle.topaz_run.specs.Words.{most_turns};
-ghost use Rattle.topaz_run.specs.Report as spec;
-ghost use Rattle.topaz_run.specs.Outcome.{reported};
-ghost use Rattle.topaz_run.specs.Answers.{Meets};
+ghost use Rattle.topaz_run.specs.Plan.{Refused};
+ghost use Rattle.topaz_run.specs.Reported.{given_by, reported};
+ghost use Rattle.topaz_run.specs.Answers.{Meets, Stops};
 
 use crate::gathered::Gathered;
 use crate::status::Stop;
-use crate::world::World;
+use crate::text::write_not_built;
+use crate::turns::{run_turns, waiting_at};
 use machine_desc::{Desc, Wiring};
-use outside::Bytes;
+use outside::{Bytes, Failed};
+use script::Script;
 use std::alloc::Global;
+use system::System;
 
-/// Which core has the turn of this number, counted from 0; an empty schedule gives it to none.
-fn core_for(schedule: &[u32], turn: u64) -> Option<u32>
-    ensures { result ≡ spec.core_for schedule.now turn }
-{
-    if schedule.is_empty() {
-        return None;
-    }
-    schedule
-        .get((turn % schedule.len() as u64) as usize)
-        .copied()
-}
-
-/// Runs the partition of a description for so many turns on a schedule of cores, by their physical numbers, and answers
-/// all that is written of it.
+/// Runs the partitions of these descriptions for so many turns, and answers all that is written of them.
 pub fn report(
     alloc: Global,
-    desc: Desc,
+    descs: Vec<Desc>,
     wiring: Wiring,
-    schedule: &[u32],
+    script: &Script,
     turns: u64,
 ) -> Result<Bytes, Stop>
-    requires sound { IsSound desc }
-    requires core { length desc.cores ≡ 1 }
-    requires small { AreSmall wiring.sizes }
-    requires extents { have_extents wiring.sizes desc.regions ≡ true }
+    requires joined { AreJoined descs.items wiring }
+    requires cores { HaveOneCore descs.items }
+    requires inputs { length script.now.inputs ≡ length wiring.consoles }
     requires few { turns ≤ most_turns }
-    ensures answer { let whole = spec.run schedule.now turns 0 (spec.opening desc wiring) in Meets result (reported whole.is_built whole.text) }
+    ensures answer { Meets result (reported (record { descs = descs.items; wiring = wiring }) (given_by script.now) turns) }
     ensures no_fault { IfErr result (λ stop. stop ≢ Stop.ReadFault) }
 {
-    let mut world = World::new(alloc, desc, wiring)?;
-    run_turns(alloc, &mut world, schedule, turns)
+    let consoles = wiring.consoles.as_slice().len();
+    let mut system = System::build(alloc, descs, wiring)?;
+    let mut text = Gathered::new(alloc);
+    run_turns(&mut system, script, consoles, turns, &mut text)?;
+    ended(alloc, &system, script, consoles, turns, text)
 }
 
-/// Does so many turns, and answers all that is written of them.
-fn run_turns(alloc: Global, world: &mut World, schedule: &[u32], turns: u64) -> Result<Bytes, Stop>
-    requires begins { world.old.machine.inner.steps ≡ 0 }
-    requires few { turns ≤ most_turns }
-    ensures answer { let whole = spec.run schedule.now turns 0 world.old in Meets result (reported whole.is_built whole.text) }
+/// Behind the last turn, the report of a run whose acts have these lines.
+fn ended(
+    alloc: Global,
+    system: &System,
+    script: &Script,
+    consoles: usize,
+    turns: u64,
+    text: Gathered,
+) -> Result<Bytes, Stop>
+    requires system { length system.now.network.wiring.consoles ≡ consoles }
+    requires script { length script.now.inputs ≡ consoles }
+    requires world { system.now.world ≡ (run system.now.network (given_by script.now) turns).after }
+    requires unbuilt { system.now.unbuilt ≡ (run system.now.network (given_by script.now) turns).unbuilt }
+    requires acts { text.text ≡ act_lines system.now.network (run system.now.network (given_by script.now) turns).lines }
+    ensures answer { Meets result (reported system.now.network (given_by script.now) turns) }
     ensures no_fault { IfErr result (λ stop. stop ≢ Stop.ReadFault) }
 {
-    let mut text = Gathered::new(alloc);
-    for turn in 0..turns {
-        if world.is_at_rest() {
-            break;
-        }
-        if !world.turn(core_for(schedule, turn), &mut text)? {
-            return Err(Stop::Refused(text.into_bytes()));
+    match system.not_built() {
+        Some(step) => Err(refused_step(text, step)),
+        None => {
+            let waiting = waiting_at(alloc, system, script, consoles, turns)?;
+            end_text(system, &waiting, text)
         }
     }
-    world.write_end(&mut text)?;
-    Ok(text.into_bytes())
+}
+
+/// The text, and behind it the line of the step that isn't built.
+fn refused_step(text: Gathered, step: u64) -> Stop
+    ensures refusal { Stops result (Refused (text.text ++ refused_line (codes "N1") (step_place step))) }
+    ensures no_fault { result ≢ Stop.ReadFault }
+{
+    let mut text = text;
+    match write_not_built(&mut text, step) {
+        Ok(()) => Stop::Refused(text.into_bytes()),
+        Err(Failed) => Stop::NoMemory,
+    }
+}
+
+/// The text, and behind it the lines of the end.
+fn end_text(system: &System, waiting: &[u64], text: Gathered) -> Result<Bytes, Stop>
+    requires { length waiting.now ≡ length system.now.network.wiring.consoles }
+    ensures text { IfOk result (λ bytes. (given : ℕ → List ℕ) → Waits system.now.network given system.now.world waiting.now
+        → bytes ≡ text.text ++ end_lines system.now.network given system.now.world) }
+    ensures no_fault { IfErr result (λ stop. stop ≡ Stop.NoMemory) }
+{
+    let mut text = text;
+    match system.end_lines(waiting, &mut text) {
+        Ok(()) => Ok(text.into_bytes()),
+        Err(Failed) => Err(Stop::NoMemory),
+    }
 }

@@ -3,8 +3,9 @@
 ghost use Rattle.std.specs.Prelude.{◌≡◌, codes};
 ghost use Rattle.outside.specs.Pieces.{Writes};
 ghost use Rattle.trace_text.specs.Refusals.{refused_line};
-ghost use Rattle.topaz_run.specs.Outcome.{blob_rule, rule_text};
-ghost use Rattle.topaz_run.specs.Text.{accepted_line, step_place};
+ghost use Rattle.topaz_run.specs.Outcome.{blob_rule, rule_text, script_rule};
+ghost use Rattle.network.specs.Report.{step_place};
+ghost use Rattle.topaz_run.specs.Text.{accepted_line, line_place};
 
 use hv_config::Rule;
 use itoa::Buffer;
@@ -44,6 +45,27 @@ pub fn write_refused_rule<S: Sink>(out: &mut S, rule: Rule, place: &[u8]) -> Res
             digits.format(rule.number).as_bytes(),
             b" at ",
             place,
+            b"\n",
+        ],
+    )
+}
+
+/// The script breaks its rule of that number at the line, counted from 1.
+pub fn write_refused_script<S: Sink>(out: &mut S, rule: u8, line: u32) -> Result<(), Failed>
+    ensures { Writes result (S.taken out.old) (S.taken out.new) (S.faults out.old) (S.faults out.new)
+        (refused_line (script_rule rule) (line_place line)) }
+{
+    let mut rule_digits = Buffer::new();
+    let mut line_digits = Buffer::new();
+    write_pieces(
+        out,
+        &[
+            b"refused ",
+            b"S",
+            rule_digits.format(rule).as_bytes(),
+            b" at ",
+            b"line ",
+            line_digits.format(line).as_bytes(),
             b"\n",
         ],
     )

@@ -1,12 +1,13 @@
 //! The top call.
 
-ghost use Rattle.std.specs.Prelude.{◌≡◌, ◌≢◌, ℕ, ◌≤◌, ◌↔◌, ◌⊎◌, List, map, length, None, IsErrOf, IfOk, IfSome, MatchResult, string_bytes, Contains};
+ghost use Rattle.std.specs.Prelude.{◌≡◌, ◌≢◌, ℕ, ◌≤◌, ◌↔◌, ◌⊎◌, List, map, length, None, IsErrOf, IfOk, OnOk, IfSome, MatchResult, string_bytes, Contains};
 ghost use Rattle.outside.specs.Fault.{Rose};
 ghost use Rattle.outside.specs.Taken.{AppendsFront};
 ghost use Rattle.topaz_run.specs.Words.{KeepsLimits, command_of};
 ghost use Rattle.topaz_run.specs.Plan.{Done, outcome_of, needs_of};
 ghost use Rattle.topaz_run.specs.Outcome.{plan_of, outcome, needs, text_of};
 ghost use Rattle.topaz_run.specs.Answers.{IsAnswerTo, Flushes, LeavesSink, Meets};
+ghost use Rattle.topaz_run.specs.Runs.{WritesRun, ReadsPlain};
 ghost use Rattle.topaz_run.specs.Meant.{meant};
 
 use crate::bare::bare;
@@ -15,6 +16,7 @@ use crate::command::Command;
 use crate::deliver::deliver;
 use crate::dtb::dtb;
 use crate::guest::guest;
+use crate::laws::done_runs_print_alone;
 use crate::run::run;
 use crate::status::{Status, Stop};
 use crate::words::command;
@@ -32,6 +34,10 @@ pub fn topaz<F: Files, S: Sink>(
     ensures answer { IfSome (F.content files.old) (λ content.
         IsAnswerTo result (S.taken out.old) (S.taken out.new) (outcome (map string_bytes words.now) content)) }
     ensures flushed { Flushes result (S.is_flushed out.new) }
+
+    // A run that is done writes its report, in which each partition without shared areas prints what its lone machine does.
+    ensures run { result ≡ Status.Ok → IfSome (F.content files.old) (λ content.
+        WritesRun (command_of (map string_bytes words.now)) content (S.taken out.old) (S.taken out.new)) }
 
     // The causes of the other answers.
     ensures usage { result ≡ Status.Usage ↔ (command_of (map string_bytes words.now) ≡ None) }
@@ -52,6 +58,7 @@ pub fn topaz<F: Files, S: Sink>(
     ensures sure { IfSome (F.content files.old) (λ content. (n : ℕ) → length (text_of (outcome (map string_bytes words.now) content)) ≤ n
         → S.SurelyTakes out.old n → (S.faults out.new ≡ S.faults out.old) × (result ≢ Status.WriteFault)) }
 {
+    done_runs_print_alone();
     let Some(command) = command(words) else {
         return Status::Usage;
     };
@@ -70,6 +77,7 @@ fn answer<F: Files>(alloc: Global, command: Command<'_>, files: &mut F) -> Resul
     ensures read_fault { IsErrOf result Stop.ReadFault → Rose (F.faults files.old) (F.faults files.new) }
     ensures needed { IsErrOf result Stop.ReadFault → IfSome (F.content files.old) (λ content.
         Contains (needs_of content (plan_of (meant command.entry))) (F.blamed files.new)) }
+    ensures plain { OnOk result (IfSome (F.content files.old) (λ content. ReadsPlain (meant command.entry) content)) }
     ensures counted { F.faults files.old ≤ F.faults files.new }
 {
     match command {
