@@ -39,27 +39,27 @@ is_entry entry = entry % 4 == 0 && nat_lt entry mapped_end
 abbrev pub refused : Status → Decision
 refused status = Refuse (code_of status)
 
--- Start the partition that the handle names at this effective address: it has to be stopped.
+-- Start the partition that the handle names, at this effective address. It must not run.
 unfoldable pub decide_start : List Port → ℕ → ℕ → Bool → Decision
 decide_start ports handle entry running =
     if not (names_partition ports handle && is_entry entry) then refused InvalidArgument
     else if running then refused InvalidState
     else Go
 
--- Stop it: it has to run.
+-- Stop it. It must run.
 unfoldable pub decide_stop : List Port → ℕ → Bool → Decision
 decide_stop ports handle running =
     if not (names_partition ports handle) then refused InvalidArgument
     else if not running then refused InvalidState
     else Go
 
--- Start it anew: it has to run.
+-- Start it anew. It must run.
 unfoldable pub decide_restart : List Port → ℕ → Bool → Decision
 decide_restart ports handle running =
     if not (names_partition ports handle) then refused InvalidArgument
     else if not running then refused InvalidState
     else Go
 
--- Tell whether it runs.
+-- Tell whether it runs, whatever it does.
 unfoldable pub decide_status : List Port → ℕ → Decision
 decide_status ports handle = if not (names_partition ports handle) then refused InvalidArgument else Go

@@ -15,8 +15,8 @@ fn refused(status: Status) -> Decision
     Decision::Refuse(status.code())
 }
 
-/// Whether the caller of this description may start the partition that `h` names, at the effective address `entry`.
-/// `running` is whether that partition runs.
+/// Whether the caller, whose description this is, may start the partition that handle `h` names, at the effective address
+/// `entry`. `running` is whether that partition runs, as the caller itself does.
 ///
 /// EINVAL where the handle names no partition, or the entry isn't a multiple of 4 below 64 MiB; then INVALID_STATE where
 /// the partition runs.
@@ -33,8 +33,8 @@ pub fn decide_start(desc: &Desc, h: u32, entry: u32, running: bool) -> Decision
     Decision::Go
 }
 
-/// Whether the caller of this description may stop the partition that `h` names, itself too. `running` is whether that
-/// partition runs.
+/// Whether the caller, whose description this is, may stop the partition that handle `h` names, itself too. `running` is
+/// whether that partition runs, as the caller itself does.
 ///
 /// EINVAL where the handle names no partition; then INVALID_STATE where the partition doesn't run.
 #[tactic(auto, unfolding(crate::specs::Decisions::decide_stop))]
@@ -50,18 +50,19 @@ pub fn decide_stop(desc: &Desc, h: u32, running: bool) -> Decision
     Decision::Go
 }
 
-/// Whether the caller of this description may start the partition anew that `h` names, itself too. `running` is whether
-/// that partition runs.
+/// Whether the caller, whose description this is, may start the partition anew that handle `h` names, itself too.
+/// `running` is whether that partition runs, as the caller itself does.
 ///
 /// EINVAL where the handle names no partition; then INVALID_STATE where the partition doesn't run.
 #[tactic(auto, unfolding(crate::specs::Decisions::decide_restart, crate::specs::Decisions::decide_stop))]
 pub fn decide_restart(desc: &Desc, h: u32, running: bool) -> Decision
     ensures { result ≡ spec.decide_restart desc.now.ports h running }
 {
+    // A partition that may be stopped may be started anew, and no other.
     decide_stop(desc, h, running)
 }
 
-/// Whether the caller of this description is told if the partition that `h` names runs, itself too.
+/// Whether the caller, whose description this is, is told if the partition that handle `h` names runs, itself too.
 ///
 /// EINVAL where the handle names no partition.
 #[tactic(auto, unfolding(crate::specs::Decisions::decide_status))]
