@@ -1,6 +1,7 @@
 -- Sets of numbers as bits.
 use Rattle.std.proofs.Common.{◌≡◌, ◌≢◌, ℕ, zero, suc, ◌+◌, ◌-◌, ◌/◌, ◌%◌, ◌^◌, ◌<◌, ◌≤◌, ◌==◌, Bool, true, false, not, ◌&&◌, ◌||◌, refl, sym, ap, ◌∙◌, eqb-true, arith}
 use Rattle.std.specs.Int.{w128, bit_at, bit_not, trailing_zeros}
+use Rattle.std.specs.Int.Count.{trailing_of_zero}
 use Rattle.std.proofs.Math.Nat.{mod-lt, div-le_self}
 use Rattle.std.proofs.Math.Pow.{pow-lt}
 use Rattle.std.proofs.lemmas.Nat.{div-add-mod', pow_pos}
@@ -67,4 +68,17 @@ none_before set k m small low high =
     let here : k + (m - k) ≡ m = omega (arith, low) in
     let left : set / 2 ^ k < 2 ^ 128 = omega (arith, small, div-le_self set (2 ^ k)) in
     let bit : bit_at set m ≡ 0 = sym (ap (bit_at set) here) ∙ sym (shifted set k (m - k)) ∙ low_free (set / 2 ^ k) left (m - k) (omega (arith, low, high)) in
+    ap (λ b. b == 1) bit
+
+lowest : (set : ℕ) → set < 2 ^ 128 → trailing_zeros w128 set < 128 → bit_at set (trailing_zeros w128 set) ≡ 1
+lowest zero small some =
+    let none : trailing_zeros w128 0 ≡ 128 = trailing_of_zero 128 in
+    absurd (omega (arith, some, none))
+lowest (suc set) small some = (bit_at-trailing_zeros w128 (suc set) (omega arith) small).1
+
+-- the first number from k on is in the set, where there is one
+pub found_first : (set k : ℕ) → set < 2 ^ 128 → trailing_zeros w128 (set / 2 ^ k) < 128 → has set (k + trailing_zeros w128 (set / 2 ^ k)) ≡ true
+found_first set k small some =
+    let left : set / 2 ^ k < 2 ^ 128 = omega (arith, small, div-le_self set (2 ^ k)) in
+    let bit : bit_at set (k + trailing_zeros w128 (set / 2 ^ k)) ≡ 1 = sym (shifted set k (trailing_zeros w128 (set / 2 ^ k))) ∙ lowest (set / 2 ^ k) left some in
     ap (λ b. b == 1) bit

@@ -1,6 +1,6 @@
 //! Sets of numbers below 128 as the bits of a word.
 
-ghost use Rattle.std.specs.Prelude.{◌≡◌, ℕ, ◌<◌, ◌≤◌, false};
+ghost use Rattle.std.specs.Prelude.{◌≡◌, ℕ, ◌<◌, ◌≤◌, true, false};
 ghost use Rattle.vpic.specs.Numbers.{has, with_number, without_number};
 
 /// Whether a number is in a set.
@@ -33,6 +33,7 @@ pub fn next_in(set: u128, from: u8, end: u8) -> u8
     requires limit { end ≤ 128 }
     ensures after { from ≤ result }
     ensures within { result ≤ end }
+    ensures found { result < end → has set result ≡ true }
     ensures none { (m : ℕ) → from ≤ m → m < result → has set m ≡ false }
 {
     if from == end {
