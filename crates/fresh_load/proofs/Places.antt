@@ -13,7 +13,7 @@ use Rattle.machine_desc.proofs.Apart.{earlier_apart, one_place}
 use Rattle.memory_areas.proofs.Found.{all_at}
 use Rattle.ground.specs.Extents.{extent_at, with_extent}
 use Rattle.ground.specs.Own.{own_of}
-use Rattle.fresh_load.specs.Fresh.{fresh_bytes, fresh_memory}
+use Rattle.fresh_load.specs.Fresh.{fresh_bytes, fresh_memory, reloaded}
 use Rattle.fresh_load.specs.Loading.{region_loaded, loaded}
 use Rattle.fresh_load.specs.Placed.{is_placed, ArePlaced, sizes_of, is_private_extent, extents_of, AreSharedZero}
 use Rattle.fresh_load.proofs.Covering.{length-fresh}
@@ -164,24 +164,52 @@ shared_alone regions i region apart at shared =
 
 -- what a region has once all were filled
 bytes_after : (desc : Desc) (memory after : List (List ℕ)) (k : ℕ) (d : Region) → none_meets have_extent [] desc.regions ≡ true → ArePlaced memory desc.regions
-    → after ≡ loaded desc.pieces desc.regions memory → AreSharedZero memory desc.regions → k < length desc.regions
-    → extent_at after (get_or desc.regions k d).extent ≡ cond (get_or desc.regions k d).private (fresh_bytes desc.pieces (get_or desc.regions k d)) (replicate (get_or desc.regions k d).size 0)
-bytes_after desc memory after k d apart placed e zeros below =
+    → after ≡ loaded desc.pieces desc.regions memory → k < length desc.regions
+    → extent_at after (get_or desc.regions k d).extent
+    ≡ cond (get_or desc.regions k d).private (fresh_bytes desc.pieces (get_or desc.regions k d)) (extent_at memory (get_or desc.regions k d).extent)
+bytes_after desc memory after k d apart placed e below =
     let region : Region = get_or desc.regions k d in
     let at : slice_get desc.regions k ≡ Some region = slice_get-get_or desc.regions k d below in
-    elim region.private as (λ b. region.private ≡ b → extent_at after region.extent ≡ cond b (fresh_bytes desc.pieces region) (replicate region.size 0)) [
+    elim region.private as (λ b. region.private ≡ b → extent_at after region.extent ≡ cond b (fresh_bytes desc.pieces region) (extent_at memory region.extent)) [
       | true ↦ λ t. all_private desc.pieces desc.regions memory after apart placed e k d below t
       | false ↦ λ t. ap (λ (all : List (List ℕ)). extent_at all region.extent) e
-          ∙ (loaded_others desc.pieces desc.regions memory region.extent (shared_alone desc.regions k region apart at t) ∙ zeros k d below t)
+          ∙ loaded_others desc.pieces desc.regions memory region.extent (shared_alone desc.regions k region apart at t)
     ] refl
 
-pub all_fresh : (desc : Desc) (memory after : List (List ℕ)) → none_meets have_extent [] desc.regions ≡ true → ArePlaced memory desc.regions
-    → after ≡ loaded desc.pieces desc.regions memory → AreSharedZero memory desc.regions → own_of (extents_of desc.regions) after ≡ fresh_memory desc
-all_fresh desc memory after apart placed e zeros =
+-- loaded anew, region by region
+reloaded-mapped : (pieces : List Piece) (regions : List Region) (memory : List (List ℕ))
+    → reloaded pieces regions (own_of (extents_of regions) memory)
+    ≡ map (λ (region : Region). cond region.private (fresh_bytes pieces region) (extent_at memory region.extent)) regions
+reloaded-mapped pieces [] memory = refl
+reloaded-mapped pieces (region ∷ regions) memory =
+    ap (λ (rest : List (List ℕ)). cond region.private (fresh_bytes pieces region) (extent_at memory region.extent) ∷ rest) (reloaded-mapped pieces regions memory)
+
+pub all_reloaded : (desc : Desc) (memory after : List (List ℕ)) → none_meets have_extent [] desc.regions ≡ true → ArePlaced memory desc.regions
+    → after ≡ loaded desc.pieces desc.regions memory
+    → own_of (extents_of desc.regions) after ≡ reloaded desc.pieces desc.regions (own_of (extents_of desc.regions) memory)
+all_reloaded desc memory after apart placed e =
     through desc.regions after
     ∙ mapped (λ (region : Region). extent_at after region.extent)
+    (λ (region : Region). cond region.private (fresh_bytes desc.pieces region) (extent_at memory region.extent)) desc.regions
+    (λ k d below. bytes_after desc memory after k d apart placed e below)
+    ∙ sym (reloaded-mapped desc.pieces desc.regions memory)
+
+zeros-or : (private : Bool) (bytes old zeros : List ℕ) → (private ≡ false → old ≡ zeros) → cond private bytes old ≡ cond private bytes zeros
+zeros-or true bytes old zeros same = refl
+zeros-or false bytes old zeros same = same refl
+
+-- over shared regions of zeros that is the first memory
+pub reloaded_first : (desc : Desc) (memory : List (List ℕ)) → AreSharedZero memory desc.regions
+    → reloaded desc.pieces desc.regions (own_of (extents_of desc.regions) memory) ≡ fresh_memory desc
+reloaded_first desc memory zeros =
+    reloaded-mapped desc.pieces desc.regions memory
+    ∙ mapped (λ (region : Region). cond region.private (fresh_bytes desc.pieces region) (extent_at memory region.extent))
     (λ (region : Region). cond region.private (fresh_bytes desc.pieces region) (replicate region.size 0)) desc.regions
-    (λ k d below. bytes_after desc memory after k d apart placed e zeros below)
+    (
+    λ k d below.
+    let region : Region = get_or desc.regions k d in
+    zeros-or region.private (fresh_bytes desc.pieces region) (extent_at memory region.extent) (replicate region.size 0) (zeros k d below)
+    )
 
 -- ---- region after region
 

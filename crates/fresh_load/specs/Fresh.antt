@@ -1,5 +1,5 @@
 -- What the memory of a partition begins with.
-use Rattle.std.specs.Prelude.{ℕ, ◌+◌, ◌-◌, Bool, cond, ◌&&◌, nat_le, nat_lt, List, map, reverse, replicate, find, slice_index_or, Option, Some, None}
+use Rattle.std.specs.Prelude.{ℕ, ◌+◌, ◌-◌, Bool, cond, ◌&&◌, nat_le, nat_lt, List, ◌∷◌, map, reverse, replicate, find, slice_index_or, Option, Some, None}
 use Rattle.std.specs.List.{range_with_len}
 use Rattle.machine_desc.specs.declared.desc.Desc.{Desc}
 use Rattle.machine_desc.specs.declared.desc.Piece.{Piece}
@@ -29,3 +29,8 @@ fresh_bytes pieces region = map (fresh_byte pieces) (range_with_len region.logic
 -- the bytes of each region in order; shared ones begin with zeros
 abbrev pub fresh_memory : Desc → List (List ℕ)
 fresh_memory desc = map (λ (region : Region). cond region.private (fresh_bytes desc.pieces region) (replicate region.size 0)) desc.regions
+
+-- the memory of a partition that is loaded anew: its private regions are as they were first, and shared ones stay
+abbrev pub reloaded : List Piece → List Region → List (List ℕ) → List (List ℕ)
+reloaded pieces (region ∷ regions) (bytes ∷ memory) = cond region.private (fresh_bytes pieces region) bytes ∷ reloaded pieces regions memory
+reloaded pieces _ memory = memory

@@ -15,7 +15,7 @@ mod pieces;
 mod putting;
 
 pub use describing::describe;
-pub use loading::load;
+pub use loading::{load, reload};
 
 #[cfg(test)]
 mod tests;

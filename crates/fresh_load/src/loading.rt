@@ -52,6 +52,22 @@ fn load_regions(pieces: &[Piece], regions: &[Region], memory: &mut Ground)
 /// Fills the private memory of a partition: each byte with that of the last piece that covers its logical address, and
 /// with zero where none does. Shared regions and the extents of other partitions stay as they are. Takes no memory, and
 /// the time of the bytes that it writes.
+pub fn reload(desc: &Desc, memory: &mut Ground)
+    requires sound { IsSound desc.now }
+    requires placed { ArePlaced memory.old desc.now.regions }
+    ensures private { All (λ (region : RegionValue). region.private ≡ true
+        → extent_at memory.new region.extent ≡ spec.fresh_bytes desc.now.pieces region) desc.now.regions }
+    ensures others { (extent : ℕ) → is_private_extent desc.now.regions extent ≡ false
+        → extent_at memory.new extent ≡ extent_at memory.old extent }
+    ensures sizes { sizes_of memory.new ≡ sizes_of memory.old }
+    ensures placed { ArePlaced memory.new desc.now.regions }
+    ensures own { own_of (extents_of desc.now.regions) memory.new
+        ≡ spec.reloaded desc.now.pieces desc.now.regions (own_of (extents_of desc.now.regions) memory.old) }
+{
+    load_regions(desc.pieces.as_slice(), desc.regions.as_slice(), memory);
+}
+
+/// Fills the private memory of a partition for the first time, as `reload` does at any time.
 ///
 /// The map isn't asked: a region is the whole of its extent, so its own numbers say where its bytes lie.
 pub fn load(desc: &Desc, map: &AreaMap, memory: &mut Ground)
@@ -67,5 +83,5 @@ pub fn load(desc: &Desc, map: &AreaMap, memory: &mut Ground)
     ensures fresh { AreSharedZero memory.old desc.now.regions
         → own_of (extents_of desc.now.regions) memory.new ≡ spec.fresh_memory desc.now }
 {
-    load_regions(desc.pieces.as_slice(), desc.regions.as_slice(), memory);
+    reload(desc, memory);
 }
