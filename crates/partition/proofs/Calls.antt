@@ -18,17 +18,22 @@ use Rattle.hcall_abi.specs.declared.call.Call.TheVariants as call
 use Rattle.hcall_abi.specs.declared.status.Status.{Status}
 use Rattle.hcall_abi.specs.declared.status.Status.TheVariants as status
 use Rattle.hcall_abi.specs.Call.{call_of}
+use Rattle.hcall_abi.specs.Status.{own_handle}
+use Rattle.partition_manager.specs.declared.decision.Decision.{Decision}
+use Rattle.partition_manager.specs.declared.decision.Decision.TheVariants.{Go, Refuse}
+use Rattle.partition_manager.specs.Decisions.{decide_start, decide_stop, decide_restart, decide_status}
 use Rattle.partition.specs.declared.found.Found.{Found}
 use Rattle.partition.specs.declared.found.Found.TheVariants.{Missing, Unbacked, Backed}
 use Rattle.partition.specs.declared.kind.Kind.{Kind}
 use Rattle.partition.specs.Channels.{Served, refusal, is_channel, is_bad_transfer, sending, receiving, polling, send, receive, poll}
 use Rattle.partition.specs.Found.{lookup}
 use Rattle.partition.specs.Port.{End, kinds_of, kind_at, end_at, room_at}
-use Rattle.partition.specs.Act.{Act, Nothing, Took, Rang, Faulted, NotBuilt, act_of, sent, took}
+use Rattle.partition.specs.Act.{Act, Nothing, Took, Rang, Stop, Restart, SelfStop, SelfRestart, Faulted, NotBuilt, act_of, sent, took}
 use Rattle.partition.specs.Interrupts.{is_line_up, is_send, granted, doorbell_send}
+use Rattle.partition.specs.Managing.{runs_at, decided, commanding, own_or, start, stop, restart, get_status}
 use Rattle.partition.specs.Lending.{IsCoreStepped, KeepsUnbuilt}
 use Rattle.partition.specs.Machine.{Cpu, Shape, shape_of}
-use Rattle.partition.specs.Step.{Done, CoreStepped, quiet, ruled, served, is_pending, pending, entered, checked, missed, handled, still, instruction, acted, begun, not_done, core_step, with_registers, shared_ranges, written}
+use Rattle.partition.specs.Step.{Done, CoreStepped, quiet, ruled, managed, served, is_pending, pending, entered, checked, missed, handled, still, instruction, acted, begun, not_done, core_step, with_registers, shared_ranges, written}
 use Rattle.partition.specs.Calling.{IsUnbuilt, is_built, service_of}
 use Rattle.partition.proofs.Steps.{acts_on, core_whole, core_nothing, tells, woken_back}
 
@@ -122,6 +127,36 @@ unfolding doorbell_send
 doorbell_served kinds registers =
     served_either (is_send (kind_at kinds (gpr_of registers 3))) (record granted { act = Rang (gpr_of registers 3) }) (refusal status.InvalidArgument) (record { act = λ e. absurd (cc) }) (refusal_served status.InvalidArgument)
 
+decided_served : (decision : Decision) (it : Served) → IsServed it → IsServed (decided decision it)
+decided_served Go it h = h
+decided_served (Refuse status) it h = record { act = λ e. absurd (cc) }
+
+own_built : (own : Bool) (one other : Act) → one ≢ NotBuilt → other ≢ NotBuilt → cond own one other ≢ NotBuilt
+own_built true one other h k = h
+own_built false one other h k = k
+
+start_served : (ports : List Port) (registers : Registers) (ends : List End) → IsServed (start ports registers ends)
+unfolding start
+start_served ports registers ends = decided_served (decide_start ports (gpr_of registers 3) (gpr_of registers 4) (runs_at ports ends (gpr_of registers 3))) _ (record { act = λ e. absurd (cc) })
+
+stop_served : (ports : List Port) (registers : Registers) (ends : List End) → IsServed (stop ports registers ends)
+unfolding stop
+stop_served ports registers ends =
+    let handle = gpr_of registers 3 in
+    decided_served (decide_stop ports handle (runs_at ports ends handle)) (commanding (own_or handle SelfStop (Stop handle)))
+    (record { act = own_built (handle == own_handle) SelfStop (Stop handle) (λ e. absurd (cc)) (λ e. absurd (cc)) })
+
+restart_served : (ports : List Port) (registers : Registers) (ends : List End) → IsServed (restart ports registers ends)
+unfolding restart
+restart_served ports registers ends =
+    let handle = gpr_of registers 3 in
+    decided_served (decide_restart ports handle (runs_at ports ends handle)) (commanding (own_or handle SelfRestart (Restart handle)))
+    (record { act = own_built (handle == own_handle) SelfRestart (Restart handle) (λ e. absurd (cc)) (λ e. absurd (cc)) })
+
+status_served : (ports : List Port) (registers : Registers) (ends : List End) → IsServed (get_status ports registers ends)
+unfolding get_status
+status_served ports registers ends = decided_served (decide_status ports (gpr_of registers 3)) _ (record { act = λ e. absurd (cc) })
+
 checked_built : (cpu : Cpu) (interrupts : Controller) → IsBuilt (checked cpu interrupts)
 unfolding checked
 checked_built cpu interrupts =
@@ -135,24 +170,20 @@ missed_built reason (Backed page) cpu interrupts = checked_built cpu interrupts
 
 -- a service that isn't built, and one that is
 served_unbuilt : (ports : List Port) (c : Call) (cpu : Cpu) (interrupts : Controller) (ends : List End) → is_built c ≡ false → served ports c cpu interrupts ends ≡ record { cpu = cpu; interrupts = interrupts; act = NotBuilt }
-unfolding served ruled
-served_unbuilt ports call.Restart cpu interrupts ends h = refl
-served_unbuilt ports call.GetStatus cpu interrupts ends h = refl
-served_unbuilt ports call.Start cpu interrupts ends h = refl
-served_unbuilt ports call.Stop cpu interrupts ends h = refl
+unfolding served managed ruled
 served_unbuilt ports call.Memcpy cpu interrupts ends h = refl
 served_unbuilt ports _ cpu interrupts ends h = absurd (cc)
 
 not_built : (ports : List Port) (c : Call) (cpu : Cpu) (interrupts : Controller) (ends : List End) → (served ports c cpu interrupts ends).act ≡ NotBuilt → is_built c ≡ false
-unfolding served ruled
+unfolding served managed ruled
 not_built ports call.Send cpu interrupts ends e = absurd ((send_served (kinds_of ports) cpu.registers ends).act e)
 not_built ports call.Receive cpu interrupts ends e = absurd ((receive_served (kinds_of ports) cpu.registers ends).act e)
 not_built ports call.Poll cpu interrupts ends e = absurd ((poll_served (kinds_of ports) cpu.registers ends).act e)
 not_built ports call.DoorbellSend cpu interrupts ends e = absurd ((doorbell_served (kinds_of ports) cpu.registers).act e)
-not_built ports call.Restart cpu interrupts ends e = refl
-not_built ports call.GetStatus cpu interrupts ends e = refl
-not_built ports call.Start cpu interrupts ends e = refl
-not_built ports call.Stop cpu interrupts ends e = refl
+not_built ports call.Restart cpu interrupts ends e = absurd ((restart_served ports cpu.registers ends).act e)
+not_built ports call.GetStatus cpu interrupts ends e = absurd ((status_served ports cpu.registers ends).act e)
+not_built ports call.Start cpu interrupts ends e = absurd ((start_served ports cpu.registers ends).act e)
+not_built ports call.Stop cpu interrupts ends e = absurd ((stop_served ports cpu.registers ends).act e)
 not_built ports call.Memcpy cpu interrupts ends e = refl
 not_built ports _ cpu interrupts ends e = absurd (cc)
 

@@ -13,8 +13,8 @@ use Rattle.machine_desc.specs.declared.act.Act.TheVariants as told
 use Rattle.partition.specs.declared.kind.Kind.TheVariants.{Channel}
 use Rattle.partition.specs.Act.{Act, NotBuilt, act_of, ports_after, steps_after}
 use Rattle.partition.specs.Lending.{HasHandle, IsOutstanding}
-use Rattle.partition.specs.Port.{End, kind_at, end_at, with_end, sent_on, freed_on, empty_end}
-use Rattle.partition.specs.MemPorts.{end_of, ends_of, sorts_of, mem_end_at, no_end, with_channel}
+use Rattle.partition.specs.Port.{End, kind_at, end_at, with_end, sent_on, freed_on, told_on, emptied, empty_end}
+use Rattle.partition.specs.MemPorts.{end_of, ends_of, sorts_of, mem_end_at, no_end, with_channel, emptied_end}
 
 -- a handle of some kind is one of the list
 pub record IsThere (ends : List MemEnd) (handle : ℕ) : Type 0 where
@@ -74,6 +74,30 @@ freed_end ends handle count there =
     ends_put ends handle (after_receive B count it.channel)
     ∙ ap (λ (n : ℕ). with_end (ends_of ends) handle (record { received = it.channel.at_a; outstanding = n; runs = it.runs })) (length-drop count it.channel.at_b)
     ∙ ap (λ (e : End). with_end (ends_of ends) handle (record e { outstanding = e.outstanding - count })) (sym (end_there ends handle there))
+
+-- ---- what their lender does
+
+-- of a managed partition it is told whether it runs
+pub ends_told : (ends : List MemEnd) (handle : ℕ) (runs : Bool) → handle - 1 < length ends
+    → ends_of (slice_set ends (handle - 1) (record (mem_end_at ends handle) { runs = runs })) ≡ told_on (ends_of ends) handle runs
+ends_told ends handle runs there =
+    map_set end_of ends (handle - 1) (record (mem_end_at ends handle) { runs = runs })
+    ∙ ap (λ (e : End). with_end (ends_of ends) handle (record e { runs = runs })) (sym (end_there ends handle there))
+
+pub sorts_told : (ends : List MemEnd) (handle : ℕ) (runs : Bool) → handle - 1 < length ends → sorts_of (slice_set ends (handle - 1) (record (mem_end_at ends handle) { runs = runs })) ≡ sorts_of ends
+sorts_told ends handle runs there =
+    map_set (λ (it : MemEnd). it.kind) ends (handle - 1) (record (mem_end_at ends handle) { runs = runs })
+    ∙ ap (slice_set (sorts_of ends) (handle - 1)) (sym (kind_there ends handle there))
+    ∙ same_set (sorts_of ends) (handle - 1) no_end.kind
+
+-- what was received is gone
+pub ends_emptied : (ends : List MemEnd) → ends_of (map emptied_end ends) ≡ emptied (ends_of ends)
+ends_emptied [] = refl
+ends_emptied (it ∷ ends) = ap (λ (rest : List End). end_of (emptied_end it) ∷ rest) (ends_emptied ends)
+
+pub sorts_emptied : (ends : List MemEnd) → sorts_of (map emptied_end ends) ≡ sorts_of ends
+sorts_emptied [] = refl
+sorts_emptied (it ∷ ends) = ap (λ (rest : List Kind). it.kind ∷ rest) (sorts_emptied ends)
 
 -- ---- what was sent is outstanding
 

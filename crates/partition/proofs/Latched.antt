@@ -22,10 +22,10 @@ use Rattle.partition.specs.declared.found.Found.{Found}
 use Rattle.partition.specs.declared.found.Found.TheVariants.{Missing, Unbacked, Backed}
 use Rattle.partition.specs.Found.{lookup}
 use Rattle.partition.specs.Port.{End}
-use Rattle.partition.specs.Act.{Act, NotBuilt}
+use Rattle.partition.specs.Act.{Act, SelfRestart, NotBuilt}
 use Rattle.partition.specs.Interrupts.{interrupt_count, levels, is_line_up, bell_at, rung_by, Ruled, done, refused, telling_config, telling_mask, set_config, get_config, set_mask, get_mask, acknowledge, end_of_interrupt, set_task_priority, get_task_priority}
 use Rattle.partition.specs.Machine.{Cpu, Machine, Shape, shape_of, core_at, fresh, fresh_interrupts}
-use Rattle.partition.specs.Step.{Done, CoreStepped, quiet, with_registers, entered, ruled, served, checked, missed, handled, still, instruction, begun, is_pending, pending, acted, unless_unbuilt, not_done, core_step, step}
+use Rattle.partition.specs.Step.{Done, CoreStepped, quiet, with_registers, entered, ruled, managed, served, checked, missed, handled, still, instruction, begun, is_pending, pending, acted, unless_unbuilt, not_done, core_step, with_step, unless_restarting, step}
 use Rattle.partition.specs.Event.{Event, Ring, Start, Restart, apply}
 use Rattle.partition.specs.Reached.{Move, Steps, Takes, moved, after_moves, AreInterruptsSound, InterruptsStaySound}
 
@@ -121,7 +121,7 @@ unfolding get_task_priority
 follows_get_task old = same old
 
 follows_served : (ports : List Port) (service : Call) (cpu : Cpu) (old : Controller) (ends : List End) → Follows old (served ports service cpu old ends).interrupts
-unfolding served ruled
+unfolding served managed ruled
 follows_served ports call.SetConfig cpu old ends = follows_set_config cpu.registers old
 follows_served ports call.GetConfig cpu old ends = follows_get_config cpu.registers old
 follows_served ports call.SetMask cpu old ends = follows_set_mask cpu.registers old
@@ -222,10 +222,16 @@ stays_told desc machine (Start entry load) sound = begins desc
 stays_told desc machine Restart sound = begins desc
 stays_told desc machine _ sound = sound
 
+stays_restarting : (desc : Desc) (act : Act) (machine : Machine) → AreInterruptsSound desc machine.inner.interrupts → AreInterruptsSound desc (unless_restarting desc act machine).inner.interrupts
+stays_restarting desc SelfRestart machine sound = begins desc
+stays_restarting desc act machine sound = sound
+
 stays_step : (desc : Desc) (machine : Machine) (core : ℕ) (feed : List ℕ) → AreInterruptsSound desc machine.inner.interrupts → AreInterruptsSound desc (step desc machine core feed).after.inner.interrupts
 unfolding step
 stays_step desc machine core feed sound =
-    stays desc machine.inner.interrupts _ (follows_core (shape_of desc) (core_at machine.inner.cores core) machine.inner.interrupts machine.ports machine.memory) sound
+    let did : CoreStepped = core_step (shape_of desc) (core_at machine.inner.cores core) machine.inner.interrupts machine.ports machine.memory in
+    stays_restarting desc did.act (with_step core did machine)
+    (stays desc machine.inner.interrupts _ (follows_core (shape_of desc) (core_at machine.inner.cores core) machine.inner.interrupts machine.ports machine.memory) sound)
 
 stays_moved : (desc : Desc) (move : Move) (machine : Machine) → AreInterruptsSound desc machine.inner.interrupts → AreInterruptsSound desc (moved desc move machine).inner.interrupts
 stays_moved desc (Steps core feed) machine sound = stays_step desc machine core feed sound

@@ -13,4 +13,7 @@ pub mod Ends
 pub mod Zeros
 pub mod Taking
 pub mod Written
-pub mod Possible
+pub mod Acting
+pub mod Anew
+pub mod Forgets
+pub mod Managed

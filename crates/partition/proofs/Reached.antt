@@ -21,9 +21,11 @@ use Rattle.vpic.specs.Controller.{Controller}
 use Rattle.partition.specs.Interrupts.{is_line_up}
 use Rattle.partition.specs.Found.{lookup}
 use Rattle.partition.specs.Port.{End}
-use Rattle.partition.specs.Act.{Act, NotBuilt}
+use Rattle.partition.specs.Act.{Act, SelfRestart, NotBuilt, ends_caller}
+use Rattle.partition.specs.Channels.{Served}
+use Rattle.partition.specs.Managing.{stop, restart}
 use Rattle.partition.specs.Machine.{Cpu, Machine, Shape, shape_of, core_at, no_cpu, booted, booted_all, fresh}
-use Rattle.partition.specs.Step.{Done, CoreStepped, quiet, with_registers, entered, answered, waiting, ruled, served, checked, missed, privileged, handled, still, instruction, begun, is_pending, pending, acted, unless_unbuilt, not_done, core_step, step}
+use Rattle.partition.specs.Step.{Done, CoreStepped, quiet, with_registers, entered, answered, waiting, gone_on, obeying, ruled, managed, served, checked, missed, privileged, handled, still, instruction, begun, is_pending, pending, acted, unless_unbuilt, not_done, core_step, with_step, unless_restarting, step}
 use Rattle.partition.specs.Event.{Event, Bytes, Room, Ring, Tells, Start, Stop, Restart, apply}
 use Rattle.partition.specs.Reached.{Move, Steps, Takes, moved, after_moves, TranslationsStaySound}
 
@@ -46,13 +48,18 @@ stays_answered : (cpu : Cpu) (it : Reply) → Keeps cpu → Keeps (answered it c
 unfolding answered
 stays_answered cpu it h = record { slots = h.slots; victim = h.victim }
 
+stays_obeying : (it : Served) (cpu : Cpu) (interrupts : Controller) → Keeps cpu → Keeps (obeying it cpu interrupts).cpu
+stays_obeying it cpu interrupts h = gone (ends_caller it.act)
+  where
+    gone : (ends : Bool) → Keeps (cond ends (gone_on cpu) (answered it.reply cpu))
+    gone true = record { slots = h.slots; victim = h.victim }
+    gone false = stays_answered cpu it.reply h
+
 stays_served : (ports : List Port) (service : Call) (cpu : Cpu) (interrupts : Controller) (ends : List End) → Keeps cpu → Keeps (served ports service cpu interrupts ends).cpu
-unfolding served ruled
+unfolding served managed ruled
 stays_served ports call.Idle cpu interrupts ends h = stays_answered (waiting cpu) _ (record { slots = h.slots; victim = h.victim })
-stays_served ports call.Restart cpu interrupts ends h = h
-stays_served ports call.GetStatus cpu interrupts ends h = h
-stays_served ports call.Start cpu interrupts ends h = h
-stays_served ports call.Stop cpu interrupts ends h = h
+stays_served ports call.Restart cpu interrupts ends h = stays_obeying (restart ports cpu.registers ends) cpu interrupts h
+stays_served ports call.Stop cpu interrupts ends h = stays_obeying (stop ports cpu.registers ends) cpu interrupts h
 stays_served ports call.Memcpy cpu interrupts ends h = h
 stays_served ports _ cpu interrupts ends h = stays_answered cpu _ h
 
@@ -136,11 +143,6 @@ stays_set cores core cpu all new k below =
           subst Keeps (sym is) (all k within)
     ] refl
 
-stays_step : (desc : Desc) (machine : Machine) (core : ℕ) (feed : List ℕ) → AllKeep machine.inner.cores → AllKeep (step desc machine core feed).after.inner.cores
-unfolding step
-stays_step desc machine core feed all =
-    stays_set machine.inner.cores core _ all (λ here. stays_core (shape_of desc) (core_at machine.inner.cores core) machine.inner.interrupts machine.ports machine.memory (all core here))
-
 starts : (entry tree_at number : ℕ) → Keeps (booted entry tree_at number)
 unfolding booted
 starts entry tree_at number = record { slots = reset_is_kept; victim = omega arith }
@@ -151,6 +153,17 @@ stays_booted desc entry k below =
     let few : k < length numbers = omega (arith, below, length-map numbers (λ (number : ℕ). booted entry desc.tree_at number)) in
     let is = get_or-map (λ (number : ℕ). booted entry desc.tree_at number) numbers k 0 no_cpu few in
     subst Keeps (sym is) (starts entry desc.tree_at _)
+
+stays_restarting : (desc : Desc) (act : Act) (machine : Machine) → AllKeep machine.inner.cores → AllKeep (unless_restarting desc act machine).inner.cores
+stays_restarting desc SelfRestart machine all = stays_booted desc desc.entry
+stays_restarting desc act machine all = all
+
+stays_step : (desc : Desc) (machine : Machine) (core : ℕ) (feed : List ℕ) → AllKeep machine.inner.cores → AllKeep (step desc machine core feed).after.inner.cores
+unfolding step
+stays_step desc machine core feed all =
+    let done : CoreStepped = core_step (shape_of desc) (core_at machine.inner.cores core) machine.inner.interrupts machine.ports machine.memory in
+    stays_restarting desc done.act (with_step core done machine)
+    (stays_set machine.inner.cores core _ all (λ here. stays_core (shape_of desc) (core_at machine.inner.cores core) machine.inner.interrupts machine.ports machine.memory (all core here)))
 
 stays_told : (desc : Desc) (machine : Machine) (event : Event) → AllKeep machine.inner.cores → AllKeep (apply desc machine event).inner.cores
 unfolding apply

@@ -1,5 +1,6 @@
 -- A hypercall that was not done leaves the rest as it was.
-use Rattle.std.proofs.Common.{◌≡◌, ℕ, Bool, true, false, cond, nat_lt, List, [], ◌∷◌, length, take, set, get_or-set_other, Option, Some, None, slice_get, refl, sym, ap, subst, ◌∙◌, arith}
+use Rattle.std.proofs.Common.{◌≡◌, ℕ, ◌==◌, Bool, true, false, not, cond, nat_lt, List, [], ◌∷◌, length, take, set, get_or-set_other, Option, Some, None, slice_get, refl, sym, ap, subst, ◌∙◌, arith}
+use Rattle.std.proofs.lemmas.Bool.{cond-false}
 use Rattle.guest_regs.specs.Registers.{gpr_of, advanced}
 use Rattle.machine_desc.specs.declared.act.State.TheVariants.{Running}
 use Rattle.machine_desc.specs.declared.desc.Port.{Port}
@@ -14,13 +15,17 @@ use Rattle.hcall_abi.specs.Call.{call_of}
 use Rattle.hcall_abi.specs.Reply.{Reply, replied}
 use Rattle.hcall_abi.specs.Status.{code_of}
 use Rattle.hcall_abi.proofs.Registers.{first}
+use Rattle.partition_manager.specs.declared.decision.Decision.{Decision}
+use Rattle.partition_manager.specs.declared.decision.Decision.TheVariants.{Go, Refuse}
+use Rattle.partition_manager.specs.Decisions.{decide_start, decide_stop, decide_restart, decide_status}
 use Rattle.partition.specs.declared.kind.Kind.{Kind}
 use Rattle.partition.specs.Channels.{Served, refusal, is_channel, is_bad_transfer, sending, receiving, polling, send, receive, poll}
 use Rattle.partition.specs.Port.{End, kinds_of, kind_at, end_at, room_at}
-use Rattle.partition.specs.Act.{Rang, sent, state_after}
+use Rattle.partition.specs.Act.{Nothing, Rang, Start, Stop, Restart, SelfStop, SelfRestart, sent, ends_caller, state_after}
 use Rattle.partition.specs.Interrupts.{Ruled, is_line_up, levels, is_send, granted, doorbell_send, done, refused, telling_config, telling_mask, set_config, get_config, set_mask, get_mask, acknowledge, end_of_interrupt, set_task_priority, get_task_priority}
 use Rattle.partition.specs.Machine.{Cpu}
-use Rattle.partition.specs.Step.{Done, CoreStepped, still, answered, answering, ruling, waiting, ruled, served, begun}
+use Rattle.partition.specs.Managing.{runs_at, decided, commanding, own_or, start, stop, restart, get_status}
+use Rattle.partition.specs.Step.{Done, CoreStepped, still, answered, answering, gone_on, obeying, ruling, waiting, ruled, managed, served, begun}
 use Rattle.partition.proofs.Steps.{core_whole, core_nothing}
 use Rattle.partition.proofs.Calls.{instructs, hypercall, general}
 use Rattle.partition.specs.Refusal.{RefusesQuietly, RefusalsAreQuiet}
@@ -175,32 +180,101 @@ quiet-get_task : (cpu : Cpu) (interrupts : Controller) (ends : List End) (memory
 unfolding get_task_priority
 quiet-get_task cpu interrupts ends memory all = ruled-done (get_task_priority interrupts) cpu interrupts ends memory all refl
 
-quiet-served : (ports : List Port) (service : Call) (cpu : Cpu) (interrupts : Controller) (ends : List End) (memory : List (List ℕ)) → length cpu.registers.gpr ≡ 32 → IsQuiet cpu interrupts ends memory (served ports service cpu interrupts ends)
-unfolding served ruled
-quiet-served ports call.Send cpu interrupts ends memory all = quiet-send (kinds_of ports) cpu interrupts ends memory all
-quiet-served ports call.Receive cpu interrupts ends memory all = quiet-receive (kinds_of ports) cpu interrupts ends memory all
-quiet-served ports call.Poll cpu interrupts ends memory all = quiet-poll (kinds_of ports) cpu interrupts ends memory all
-quiet-served ports call.DoorbellSend cpu interrupts ends memory all = quiet-doorbell (kinds_of ports) cpu interrupts ends memory all
-quiet-served ports call.Idle cpu interrupts ends memory all = quiet-idle cpu interrupts ends memory all
-quiet-served ports call.Unlisted cpu interrupts ends memory all = quiet-refusal status.Unimplemented cpu interrupts ends memory
-quiet-served ports call.SetConfig cpu interrupts ends memory all = quiet-set_config cpu interrupts ends memory all
-quiet-served ports call.GetConfig cpu interrupts ends memory all = quiet-get_config cpu interrupts ends memory all
-quiet-served ports call.SetMask cpu interrupts ends memory all = quiet-set_mask cpu interrupts ends memory all
-quiet-served ports call.GetMask cpu interrupts ends memory all = quiet-get_mask cpu interrupts ends memory all
-quiet-served ports call.Iack cpu interrupts ends memory all = quiet-acknowledge (levels ports ends) cpu interrupts ends memory all
-quiet-served ports call.Eoi cpu interrupts ends memory all = quiet-end cpu interrupts ends memory all
-quiet-served ports call.SetTaskPriority cpu interrupts ends memory all = quiet-set_task cpu interrupts ends memory all
-quiet-served ports call.GetTaskPriority cpu interrupts ends memory all = quiet-get_task cpu interrupts ends memory all
-quiet-served ports _ cpu interrupts ends memory all = λ _.
+-- ---- the calls for partitions and their managers
+
+-- a call is refused by a status that isn't EAGAIN, or done
+quiet-refuse : (number : ℕ) (cpu : Cpu) (interrupts : Controller) (ends : List End) (memory : List (List ℕ)) → IsQuiet cpu interrupts ends memory (answering (record { reply = record { status = number; outs = [] }; act = Nothing }) cpu interrupts)
+unfolding answered advanced replied
+quiet-refuse number cpu interrupts ends memory _ = (
+  record {
+    bytes = refl;
+    stored = refl;
+    interrupts = refl;
+    translations = refl;
+    next_victim = refl;
+    state = refl;
+    others = refl;
+    registers = λ n other _. get_or-set_other cpu.registers.gpr 3 n number 0 other;
+  },
+  λ _. record {
+    fourth = get_or-set_other cpu.registers.gpr 3 4 number 0 (omega arith);
+    ports = refl;
+  },
+)
+
+quiet-decided : (decision : Decision) (it : Served) (cpu : Cpu) (interrupts : Controller) (ends : List End) (memory : List (List ℕ)) → length cpu.registers.gpr ≡ 32 → it.reply.status ≡ 0
+    → IsQuiet cpu interrupts ends memory (answering (decided decision it) cpu interrupts)
+quiet-decided Go it cpu interrupts ends memory all success = quiet-done it cpu interrupts ends memory all success
+quiet-decided (Refuse number) it cpu interrupts ends memory all success = quiet-refuse number cpu interrupts ends memory
+
+-- a caller that hears a reply is answered
+quiet-obeying : (it : Served) (cpu : Cpu) (interrupts : Controller) (ends : List End) (memory : List (List ℕ)) → ends_caller it.act ≡ false
+    → IsQuiet cpu interrupts ends memory (answering it cpu interrupts) → IsQuiet cpu interrupts ends memory (obeying it cpu interrupts)
+quiet-obeying it cpu interrupts ends memory hears quiet =
+    let same : answered it.reply cpu ≡ cond (ends_caller it.act) (gone_on cpu) (answered it.reply cpu) = sym (cond-false (ends_caller it.act) (gone_on cpu) (answered it.reply cpu) hears) in
+    subst (λ (left : Cpu). IsQuiet cpu interrupts ends memory (record { cpu = left; interrupts = interrupts; act = it.act })) same quiet
+
+quiet-start : (ports : List Port) (cpu : Cpu) (interrupts : Controller) (ends : List End) (memory : List (List ℕ)) → length cpu.registers.gpr ≡ 32 → IsQuiet cpu interrupts ends memory (answering (start ports cpu.registers ends) cpu interrupts)
+unfolding start
+quiet-start ports cpu interrupts ends memory all =
+    let handle = gpr_of cpu.registers 3 in
+    let entry = gpr_of cpu.registers 4 in
+    quiet-decided (decide_start ports handle entry (runs_at ports ends handle)) (commanding (Start handle entry (not (gpr_of cpu.registers 5 == 0)))) cpu interrupts ends memory all refl
+
+quiet-stop : (ports : List Port) (cpu : Cpu) (interrupts : Controller) (ends : List End) (memory : List (List ℕ)) → length cpu.registers.gpr ≡ 32 → ends_caller (stop ports cpu.registers ends).act ≡ false
+    → IsQuiet cpu interrupts ends memory (obeying (stop ports cpu.registers ends) cpu interrupts)
+unfolding stop
+quiet-stop ports cpu interrupts ends memory all hears =
+    let handle = gpr_of cpu.registers 3 in
+    let decision : Decision = decide_stop ports handle (runs_at ports ends handle) in
+    let it : Served = commanding (own_or handle SelfStop (Stop handle)) in
+    quiet-obeying (decided decision it) cpu interrupts ends memory hears (quiet-decided decision it cpu interrupts ends memory all refl)
+
+quiet-restart : (ports : List Port) (cpu : Cpu) (interrupts : Controller) (ends : List End) (memory : List (List ℕ)) → length cpu.registers.gpr ≡ 32 → ends_caller (restart ports cpu.registers ends).act ≡ false
+    → IsQuiet cpu interrupts ends memory (obeying (restart ports cpu.registers ends) cpu interrupts)
+unfolding restart
+quiet-restart ports cpu interrupts ends memory all hears =
+    let handle = gpr_of cpu.registers 3 in
+    let decision : Decision = decide_restart ports handle (runs_at ports ends handle) in
+    let it : Served = commanding (own_or handle SelfRestart (Restart handle)) in
+    quiet-obeying (decided decision it) cpu interrupts ends memory hears (quiet-decided decision it cpu interrupts ends memory all refl)
+
+quiet-status : (ports : List Port) (cpu : Cpu) (interrupts : Controller) (ends : List End) (memory : List (List ℕ)) → length cpu.registers.gpr ≡ 32 → IsQuiet cpu interrupts ends memory (answering (get_status ports cpu.registers ends) cpu interrupts)
+unfolding get_status
+quiet-status ports cpu interrupts ends memory all = quiet-decided (decide_status ports (gpr_of cpu.registers 3)) _ cpu interrupts ends memory all refl
+
+quiet-served : (ports : List Port) (service : Call) (cpu : Cpu) (interrupts : Controller) (ends : List End) (memory : List (List ℕ)) → length cpu.registers.gpr ≡ 32
+    → ends_caller (served ports service cpu interrupts ends).act ≡ false → IsQuiet cpu interrupts ends memory (served ports service cpu interrupts ends)
+unfolding served managed ruled
+quiet-served ports call.Send cpu interrupts ends memory all hears = quiet-send (kinds_of ports) cpu interrupts ends memory all
+quiet-served ports call.Receive cpu interrupts ends memory all hears = quiet-receive (kinds_of ports) cpu interrupts ends memory all
+quiet-served ports call.Poll cpu interrupts ends memory all hears = quiet-poll (kinds_of ports) cpu interrupts ends memory all
+quiet-served ports call.DoorbellSend cpu interrupts ends memory all hears = quiet-doorbell (kinds_of ports) cpu interrupts ends memory all
+quiet-served ports call.Idle cpu interrupts ends memory all hears = quiet-idle cpu interrupts ends memory all
+quiet-served ports call.Unlisted cpu interrupts ends memory all hears = quiet-refusal status.Unimplemented cpu interrupts ends memory
+quiet-served ports call.SetConfig cpu interrupts ends memory all hears = quiet-set_config cpu interrupts ends memory all
+quiet-served ports call.GetConfig cpu interrupts ends memory all hears = quiet-get_config cpu interrupts ends memory all
+quiet-served ports call.SetMask cpu interrupts ends memory all hears = quiet-set_mask cpu interrupts ends memory all
+quiet-served ports call.GetMask cpu interrupts ends memory all hears = quiet-get_mask cpu interrupts ends memory all
+quiet-served ports call.Iack cpu interrupts ends memory all hears = quiet-acknowledge (levels ports ends) cpu interrupts ends memory all
+quiet-served ports call.Eoi cpu interrupts ends memory all hears = quiet-end cpu interrupts ends memory all
+quiet-served ports call.SetTaskPriority cpu interrupts ends memory all hears = quiet-set_task cpu interrupts ends memory all
+quiet-served ports call.GetTaskPriority cpu interrupts ends memory all hears = quiet-get_task cpu interrupts ends memory all
+quiet-served ports call.Start cpu interrupts ends memory all hears = quiet-start ports cpu interrupts ends memory all
+quiet-served ports call.Stop cpu interrupts ends memory all hears = quiet-stop ports cpu interrupts ends memory all hears
+quiet-served ports call.Restart cpu interrupts ends memory all hears = quiet-restart ports cpu interrupts ends memory all hears
+quiet-served ports call.GetStatus cpu interrupts ends memory all hears = quiet-status ports cpu interrupts ends memory all
+quiet-served ports _ cpu interrupts ends memory all hears = λ _.
     (record { bytes = refl; stored = refl; interrupts = refl; translations = refl; next_victim = refl; state = refl; others = refl; registers = λ n _ _. refl }, λ _. record { fourth = refl; ports = refl })
 
 pub quiet_refusals : RefusalsAreQuiet
-quiet_refusals shape cpu interrupts ends memory all next is_built =
+quiet_refusals shape cpu interrupts ends memory all next is_built hears =
     let line = is_line_up shape.ports interrupts ends in
     let ready : Cpu = begun line cpu in
     let service = call_of (gpr_of ready.registers 11) in
     let serves = instructs shape line ready interrupts ends memory next.undisturbed next.awake ∙ hypercall shape ready interrupts ends memory next.call in
     let registers : length ready.registers.gpr ≡ 32 = ap length (general line cpu) ∙ all in
-    let quiet : IsQuiet ready interrupts ends memory (served shape.ports service ready interrupts ends) = quiet-served shape.ports service ready interrupts ends memory registers in
     let whole = core_whole shape cpu interrupts ends memory (λ e. is_built (ap (λ (d : CoreStepped). d.act) (core_nothing shape cpu interrupts ends memory e))) in
+    let heard : ends_caller (served shape.ports service ready interrupts ends).act ≡ false = sym (ap (λ (s : CoreStepped). ends_caller s.act) (whole ∙ serves)) ∙ hears in
+    let quiet : IsQuiet ready interrupts ends memory (served shape.ports service ready interrupts ends) = quiet-served shape.ports service ready interrupts ends memory registers heard in
     subst (λ (s : CoreStepped). RefusesQuietly ready interrupts ends memory s) (sym (whole ∙ serves)) quiet

@@ -1,5 +1,5 @@
 -- A step over the real memory is the step of the machine.
-use Rattle.std.proofs.Common.{◌≡◌, ℕ, ◌-◌, ◌==◌, Bool, true, false, cond, List, [], map, length, filter, slice_set, refl, sym, ap, subst, ◌∙◌}
+use Rattle.std.proofs.Common.{◌≡◌, ℕ, ◌+◌, ◌-◌, ◌==◌, Bool, true, false, cond, List, [], ◌∷◌, map, length, filter, slice_set, refl, sym, ap, subst, ◌∙◌}
 use Rattle.guest_regs.specs.Registers.{Registers}
 use Rattle.ground.specs.Extents.{extent_at}
 use Rattle.ground.specs.Own.{KeepsForeign, own_of}
@@ -12,18 +12,20 @@ use Rattle.machine_desc.specs.declared.act.Act.{Act as Told}
 use Rattle.machine_desc.specs.declared.act.Act.TheVariants as told
 use Rattle.machine_desc.specs.declared.desc.Desc.{Desc}
 use Rattle.machine_desc.specs.Sound.{IsSound}
+use Rattle.fresh_load.specs.Fresh.{reloaded}
 use Rattle.fresh_load.specs.Placed.{ArePlaced, extents_of}
 use Rattle.trap_emulate.specs.Clock.{ticked, time_passed, expired}
 use Rattle.vpic.specs.Controller.{Controller}
 use Rattle.partition.specs.declared.clock.Clocks.{Clocks}
 use Rattle.partition.specs.Regions.{areas_of}
 use Rattle.partition.specs.Found.{lookup, lookup_in}
-use Rattle.partition.specs.Port.{End}
-use Rattle.partition.specs.Act.{Act, NotBuilt, act_of, ports_after, state_after, steps_after}
-use Rattle.partition.specs.Machine.{Cpu, Machine, Shape, shape_of, core_at}
+use Rattle.partition.specs.Port.{End, emptied}
+use Rattle.partition.specs.Act.{Act, SelfRestart, NotBuilt, act_of, called, settled, ports_after, state_after, steps_after}
+use Rattle.partition.specs.Machine.{Cpu, Inner, Machine, Shape, shape_of, core_at}
+use Rattle.partition.specs.Anew.{started_inner}
 use Rattle.partition.specs.Interrupts.{is_line_up}
-use Rattle.partition.specs.Step.{Done, CoreStepped, with_registers, handled, written, shared_ranges, instruction, is_pending, acted, begun, woken, unless_unbuilt, not_done, core_step, with_step, step}
-use Rattle.partition.specs.Lending.{Part, machine_of, IsCoreStepped, IsStepped, KeepsUnbuilt, is_shared_extent}
+use Rattle.partition.specs.Step.{Done, CoreStepped, with_registers, handled, written, shared_ranges, instruction, is_pending, acted, begun, woken, unless_unbuilt, not_done, core_step, with_step, unless_restarting, step}
+use Rattle.partition.specs.Lending.{Part, machine_of, IsCoreStepped, IsStepped, KeepsUnbuilt, Reloads, inner_after, restarts, is_shared_extent}
 use Rattle.partition.proofs.Areas.{placed_extents, count, shared_in}
 use Rattle.partition.proofs.Backed.{pages_named}
 
@@ -244,30 +246,55 @@ restored line old mid done new clocks begun_is kept is from =
 
 -- ---- the machine's step
 
-pub settled : (old mid new : Part) (core : ℕ) (ends ends' : List End) (before after : List (List ℕ)) (act : Told) (ranges : List Wrote) (feed : List ℕ)
-    → IsCoreStepped (extents_of old.desc.regions) (core_step (shape_of old.desc) (core_at old.inner.cores core) old.inner.interrupts ends (own_of (extents_of old.desc.regions) before)) (core_at mid.inner.cores core) mid.inner.interrupts after act ranges
+-- what was received is gone once
+pub emptied_twice : (ends : List End) → emptied (emptied ends) ≡ emptied ends
+emptied_twice [] = refl
+emptied_twice (it ∷ ends) = ap (λ (rest : List End). record it { received = [] } ∷ rest) (emptied_twice ends)
+
+-- a machine by itself, from what its core left and the act of its step
+finished : (desc : Desc) (act : Act) (inner : Inner) (ends : List End) (own after : List (List ℕ)) → after ≡ cond (restarts act) (reloaded desc.pieces desc.regions own) own
+    → unless_restarting desc act (record { inner = record inner { state = state_after act; steps = steps_after act inner.steps }; ports = ports_after act ends; memory = own })
+    ≡ record { inner = inner_after desc act inner; ports = settled act (called act ends); memory = after }
+finished desc SelfRestart inner ends own after e = λ i. record {
+  inner = started_inner desc desc.entry (record inner { steps = inner.steps + 1 });
+  ports = emptied_twice ends i;
+  memory = sym e i;
+}
+finished desc act inner ends own after e = λ i. record {
+  inner = record inner { state = state_after act; steps = steps_after act inner.steps };
+  ports = settled act (called act ends);
+  memory = sym e i;
+}
+
+pub machine_stepped : (old mid new : Part) (core : ℕ) (ends ends' : List End) (before between after : List (List ℕ)) (act : Told) (ranges : List Wrote) (feed : List ℕ)
+    → IsCoreStepped (extents_of old.desc.regions) (core_step (shape_of old.desc) (core_at old.inner.cores core) old.inner.interrupts ends (own_of (extents_of old.desc.regions) before)) (core_at mid.inner.cores core) mid.inner.interrupts between act ranges
     → mid ≡ record old { inner = record old.inner { cores = slice_set old.inner.cores core (core_at mid.inner.cores core); interrupts = mid.inner.interrupts } }
-    → ends' ≡ ports_after (act_of act) ends
-    → new ≡ record mid { inner = record mid.inner { state = state_after (act_of act); steps = steps_after (act_of act) mid.inner.steps } }
-    → IsStepped (extents_of old.desc.regions) (step old.desc (machine_of old ends before) core feed) (machine_of new ends' after) act ranges
+    → ends' ≡ called (act_of act) ends
+    → new ≡ record mid { inner = inner_after mid.desc (act_of act) mid.inner }
+    → Reloads (restarts (act_of act)) mid.desc between after
+    → IsStepped (extents_of old.desc.regions) (step old.desc (machine_of old ends before) core feed) (machine_of new (settled (act_of act) ends') after) act ranges
 unfolding step
-settled old mid new core ends ends' before after act ranges feed h mid_is ends_is new_is =
+machine_stepped old mid new core ends ends' before between after act ranges feed h mid_is ends_is new_is loads =
     let names = extents_of old.desc.regions in
     let done : CoreStepped = core_step (shape_of old.desc) (core_at old.inner.cores core) old.inner.interrupts ends (own_of names before) in
     let made = λ (cpu : Cpu) (interrupts : Controller) (act : Act) (memory : List (List ℕ)).
-    let m : Machine = with_step core (record { cpu = cpu; interrupts = interrupts; memory = memory; act = act; stored = [] }) (machine_of old ends before) in m in
+    let m : Machine = unless_restarting old.desc act (with_step core (record { cpu = cpu; interrupts = interrupts; memory = memory; act = act; stored = [] }) (machine_of old ends before)) in m in
     let cpu = core_at mid.inner.cores core in
     let interrupts = mid.inner.interrupts in
-    let left : Part = record {
-      desc = old.desc;
-      inner = record { cores = slice_set old.inner.cores core cpu; interrupts = interrupts; state = state_after (act_of act); steps = steps_after (act_of act) old.inner.steps };
-    } in
-    let part : new ≡ left = new_is ∙ ap (λ (p : Part). record p { inner = record p.inner { state = state_after (act_of act); steps = steps_after (act_of act) p.inner.steps } }) mid_is in
+    let own : List (List ℕ) = own_of names between in
+    let held : Inner = record old.inner { cores = slice_set old.inner.cores core cpu; interrupts = interrupts } in
+    let left : Part = record { desc = old.desc; inner = inner_after old.desc (act_of act) held } in
+    let part : new ≡ left = new_is ∙ ap (λ (p : Part). record p { inner = inner_after p.desc (act_of act) p.inner }) mid_is in
+    let desc : mid.desc ≡ old.desc = ap (λ (p : Part). p.desc) mid_is in
+    let its : own_of names after ≡ cond (restarts (act_of act)) (reloaded old.desc.pieces old.desc.regions own) own =
+    (subst (λ (d : Desc). Reloads (restarts (act_of act)) d between after) desc loads).own in
     record {
       after = ap (λ (c : Cpu). made c done.interrupts done.act done.memory) h.cpu ∙ ap (λ (i : Controller). made cpu i done.act done.memory) h.interrupts
           ∙ ap (λ (a : Act). made cpu interrupts a done.memory) h.act ∙ ap (made cpu interrupts (act_of act)) h.memory
-          ∙ ap (λ (es : List End). machine_of left es after) (sym ends_is)
-          ∙ ap (λ (p : Part). machine_of p ends' after) (sym part);
+          ∙ finished old.desc (act_of act) held ends own (own_of names after) its
+          ∙ ap (λ (es : List End). machine_of left (settled (act_of act) es) after) (sym ends_is)
+          ∙ ap (λ (p : Part). record { inner = p.inner; ports = settled (act_of act) ends'; memory = own_of names after }) (sym part)
+          ∙ ap (λ (d : Desc). record { inner = new.inner; ports = settled (act_of act) ends'; memory = own_of (extents_of d.regions) after }) (sym (ap (λ (p : Part). p.desc) part));
       act = h.act;
       shared = h.shared;
     }

@@ -52,15 +52,34 @@ sent handle (byte ∷ bytes) = Sent handle (byte ∷ bytes)
 abbrev pub took : ℕ → ℕ → Act
 took handle count = if count == 0 then Nothing else Took handle count
 
--- the partition's ends after the act
+-- ---- the partition's ends
+
+-- what a step does to them by itself: it sends, and it takes
+abbrev pub called : Act → List End → List End
+called (Sent handle bytes) ends = sent_on ends handle (length bytes)
+called (Took handle count) ends = taken_on ends handle count
+called _ ends = ends
+
+-- What becomes of them then: a manager knows whether a partition runs that it commanded, and what a partition received is gone where
+-- it restarts itself.
+abbrev pub settled : Act → List End → List End
+settled (Start handle entry load) ends = told_on ends handle true
+settled (Stop handle) ends = told_on ends handle false
+settled (Restart handle) ends = told_on ends handle true
+settled SelfRestart ends = emptied ends
+settled _ ends = ends
+
+-- after the act
 abbrev pub ports_after : Act → List End → List End
-ports_after (Sent handle bytes) ends = sent_on ends handle (length bytes)
-ports_after (Took handle count) ends = taken_on ends handle count
-ports_after (Start handle entry load) ends = told_on ends handle true
-ports_after (Stop handle) ends = told_on ends handle false
-ports_after (Restart handle) ends = told_on ends handle true
-ports_after SelfRestart ends = emptied ends
-ports_after _ ends = ends
+ports_after act ends = settled act (called act ends)
+
+-- ---- its state and its steps
+
+-- by this act the caller ends its own run, and hears no reply
+abbrev pub ends_caller : Act → Bool
+ends_caller SelfStop = true
+ends_caller SelfRestart = true
+ends_caller _ = false
 
 -- whether it runs on
 abbrev pub state_after : Act → State

@@ -4,7 +4,7 @@ use Rattle.guest_regs.specs.Registers.{gpr_of}
 use Rattle.core_step.specs.Step as core
 use Rattle.trap_emulate.specs.Entry.{are_interrupts_enabled}
 use Rattle.hcall_abi.specs.declared.call.Call.{Call}
-use Rattle.hcall_abi.specs.declared.call.Call.TheVariants.{Restart, GetStatus, Start, Stop, Memcpy}
+use Rattle.hcall_abi.specs.declared.call.Call.TheVariants.{Memcpy}
 use Rattle.hcall_abi.specs.Call.{call_of}
 use Rattle.vpic.specs.Controller.{Controller}
 use Rattle.partition.specs.Port.{End}
@@ -24,16 +24,12 @@ pub record CallsNext (shape : Shape) (line : Bool) (cpu : Cpu) (memory : List (L
 abbrev pub service_of : Bool → Cpu → Call
 service_of line cpu = call_of (gpr_of (begun line cpu).registers 11)
 
--- The services for managers aren't built yet; where a token has none, the answer is.
+-- The copying of memory isn't built yet; where a token has no service, the answer is.
 abbrev pub is_built : Call → Bool
-is_built Restart = false
-is_built GetStatus = false
-is_built Start = false
-is_built Stop = false
 is_built Memcpy = false
 is_built _ = true
 
--- The next step isn't built: it asks for a service of managers.
+-- The next step isn't built: it asks to copy memory.
 pub record IsUnbuilt (shape : Shape) (cpu : Cpu) (interrupts : Controller) (ends : List End) (memory : List (List ℕ)) : Type 0 where
   pub calls : CallsNext shape (is_line_up shape.ports interrupts ends) cpu memory
   pub unbuilt : is_built (service_of (is_line_up shape.ports interrupts ends) cpu) ≡ false

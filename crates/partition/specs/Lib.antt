@@ -5,12 +5,16 @@ pub mod Port
 pub mod Act
 pub mod Interrupts
 pub mod Machine
+pub mod Anew
+pub mod Managing
 pub mod Step
 pub mod Trail
 pub mod Event
 pub mod Lending
 pub mod Calling
 pub mod Refusal
+pub mod Acting
+pub mod Forgets
 pub mod Reached
 pub mod Reservations
 pub mod MemPorts

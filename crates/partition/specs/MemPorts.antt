@@ -1,6 +1,6 @@
 -- Ports in memory: a channel for each handle, whose end A is the partition's.
 use Rattle.std.specs.Prelude.{◌≡◌, ℕ, ◌-◌, false, List, length, map, slice_index_or, slice_set}
-use Rattle.byte_channel.specs.Waiting.{Waiting, empty_channel, after_send, after_receive}
+use Rattle.byte_channel.specs.Waiting.{Waiting, empty_channel, after_send, after_receive, after_clear}
 use Rattle.byte_channel.specs.declared.side.Side.TheVariants.{A}
 use Rattle.partition.specs.declared.kind.Kind.{Kind}
 use Rattle.partition.specs.declared.kind.Kind.TheVariants.{Channel}
@@ -27,6 +27,10 @@ mem_end_at ends handle = slice_index_or ends (handle - 1) no_end
 -- the handle's channel is this one now
 abbrev pub with_channel : List MemEnd → ℕ → Waiting → List MemEnd
 with_channel ends handle channel = slice_set ends (handle - 1) (record (mem_end_at ends handle) { channel = channel })
+
+-- nothing waits at the partition's end
+abbrev pub emptied_end : MemEnd → MemEnd
+emptied_end it = record it { channel = after_clear A it.channel }
 
 -- what sending and taking do
 abbrev pub Sends : List MemEnd → ℕ → List ℕ → List MemEnd → Type 0

@@ -1,5 +1,5 @@
 -- One step of the machine.
-use Rattle.std.specs.Prelude.{ℕ, ◌+◌, Bool, not, ◌&&◌, ◌||◌, List, [], filter, slice_set, if◌then◌else◌}
+use Rattle.std.specs.Prelude.{ℕ, ◌+◌, Bool, true, not, ◌&&◌, ◌||◌, List, [], filter, slice_set, if◌then◌else◌}
 use Rattle.insn.specs.declared.instruction.Insn.{Insn}
 use Rattle.guest_regs.specs.State.{store_syndrome, order_syndrome}
 use Rattle.guest_regs.specs.Registers.{Registers, advanced, gpr_of, instruction_space, data_space}
@@ -26,8 +26,10 @@ use Rattle.partition.specs.Regions.{Area, area_at}
 use Rattle.partition.specs.Found.{found, lookup}
 use Rattle.partition.specs.Port.{End, kinds_of}
 use Rattle.partition.specs.Interrupts.{Ruled, levels, is_line_up, granted, doorbell_send, set_config, get_config, set_mask, get_mask, acknowledge, end_of_interrupt, set_task_priority, get_task_priority}
-use Rattle.partition.specs.Act.{Act, Nothing, Faulted, NotBuilt, ports_after, state_after, steps_after}
+use Rattle.partition.specs.Act.{Act, Nothing, SelfRestart, Faulted, NotBuilt, ports_after, ends_caller, state_after, steps_after}
 use Rattle.partition.specs.Machine.{Cpu, Machine, Shape, shape_of, core_at}
+use Rattle.partition.specs.Anew.{started}
+use Rattle.partition.specs.Managing.{start, stop, restart, get_status}
 
 -- What is left of a core and of the interrupt controller by something that sees no memory, and what others see of it. What it does to
 -- the partition's ends follows from that.
@@ -59,6 +61,17 @@ ruling ruled cpu = record { cpu = answered ruled.reply cpu; interrupts = ruled.i
 abbrev pub waiting : Cpu → Cpu
 waiting cpu = with_registers (record cpu.registers { idle = Bool.true }) cpu
 
+-- a caller that ended its own run has no reply, and stands behind its sc
+abbrev pub gone_on : Cpu → Cpu
+gone_on cpu = with_registers (advanced cpu.registers) cpu
+
+abbrev pub obeying : Served → Cpu → Controller → Done
+obeying served cpu interrupts = record {
+  cpu = if ends_caller served.act then gone_on cpu else answered served.reply cpu;
+  interrupts = interrupts;
+  act = served.act;
+}
+
 -- The services of the interrupt controller, whose sources with these numbers are up by their levels. A service that isn't built yet is
 -- not done.
 unfoldable pub ruled : Call → ℕ → Cpu → Controller → Done
@@ -72,6 +85,14 @@ ruled call.SetTaskPriority levels cpu interrupts = ruling (set_task_priority cpu
 ruled call.GetTaskPriority levels cpu interrupts = ruling (get_task_priority interrupts) cpu
 ruled _ levels cpu interrupts = record { cpu = cpu; interrupts = interrupts; act = NotBuilt }
 
+-- The services for partitions and their managers.
+unfoldable pub managed : List Port → Call → Cpu → Controller → List End → Done
+managed ports call.Start cpu interrupts ends = answering (start ports cpu.registers ends) cpu interrupts
+managed ports call.Stop cpu interrupts ends = obeying (stop ports cpu.registers ends) cpu interrupts
+managed ports call.Restart cpu interrupts ends = obeying (restart ports cpu.registers ends) cpu interrupts
+managed ports call.GetStatus cpu interrupts ends = answering (get_status ports cpu.registers ends) cpu interrupts
+managed ports call cpu interrupts ends = ruled call (levels ports ends) cpu interrupts
+
 -- By the service: a token that has none is refused.
 unfoldable pub served : List Port → Call → Cpu → Controller → List End → Done
 served ports call.Send cpu interrupts ends = answering (send (kinds_of ports) cpu.registers ends) cpu interrupts
@@ -80,7 +101,7 @@ served ports call.Poll cpu interrupts ends = answering (poll (kinds_of ports) cp
 served ports call.DoorbellSend cpu interrupts ends = answering (doorbell_send (kinds_of ports) cpu.registers) cpu interrupts
 served ports call.Idle cpu interrupts ends = answering granted (waiting cpu) interrupts
 served ports call.Unlisted cpu interrupts ends = answering (refusal Unimplemented) cpu interrupts
-served ports call cpu interrupts ends = ruled call (levels ports ends) cpu interrupts
+served ports call cpu interrupts ends = managed ports call cpu interrupts ends
 
 -- ---- interrupts
 
@@ -224,8 +245,13 @@ with_step core done machine = record {
   memory = done.memory;
 }
 
+-- a machine that restarts itself is as after any restart, and its step is counted
+abbrev pub unless_restarting : Desc → Act → Machine → Machine
+unless_restarting desc SelfRestart machine = started desc desc.entry true machine
+unless_restarting desc _ machine = machine
+
 -- One step of the core at this place. The feed is what the step copies out of a managed partition, and nothing until that is built.
 unfoldable pub step : Desc → Machine → ℕ → List ℕ → Stepped
 step desc machine core feed =
     let done : CoreStepped = core_step (shape_of desc) (core_at machine.inner.cores core) machine.inner.interrupts machine.ports machine.memory in
-    record { after = with_step core done machine; act = done.act; stored = done.stored }
+    record { after = unless_restarting desc done.act (with_step core done machine); act = done.act; stored = done.stored }

@@ -30,6 +30,7 @@ use crate::interrupts::{
     acknowledge, doorbell_send, end_of_interrupt, get_config, get_mask, get_task_priority,
     is_line_up, set_config, set_mask, set_task_priority,
 };
+use crate::managing::{get_status, restart, start, stop};
 use crate::ports::Ports;
 use crate::reservations::is_stored_to;
 use crate::served::Served;
@@ -80,6 +81,17 @@ impl Cpu {
                 nv: 0,
             },
         })
+    }
+
+    /// The core begins as `booted` makes it. Takes no memory.
+    #[tactic(auto, unfolding(crate::specs::Machine::booted))]
+    pub fn reboot(&mut self, entry: u32, tree_at: u32, number: u32)
+        requires { entry % 4 ≡ 0 }
+        ensures { self.new ≡ booted entry tree_at number }
+    {
+        *self.core.regs_mut() = boot(entry, tree_at, number);
+        self.mmu.tlb.reset();
+        self.mmu.nv = 0;
     }
 
     /// Another partition stored in these ranges of shared extents, which ends a reservation of theirs.
@@ -361,8 +373,60 @@ impl Cpu {
             }
             Call::Idle => self.wait(),
             Call::Unlisted => self.answer(refusal(Status::Unimplemented)),
-            call => self.rule(call, desc, vpic, ports),
+            call => self.manage(call, desc, vpic, ports),
         }
+    }
+
+    /// Does a call for partitions and their managers.
+    #[tactic(auto, using(crate::proofs::Lent::bell_lent), unfolding(crate::specs::Step::managed))]
+    fn manage<P: Ports>(&mut self, call: Call, desc: &Desc, vpic: &mut Vpic, ports: &P) -> Act
+        requires sound { IsSound desc.now }
+        requires kinds { P.kinds ports.now ≡ kinds_of desc.now.ports }
+        ensures managed { spec.managed desc.now.ports call self.old vpic.old (P.seen ports.now)
+            ≡ record { cpu = self.new; interrupts = vpic.new; act = act_of result } }
+        ensures lent { IsLent P.kinds P.seen P.sends P.takes result ports.now ports.now }
+    {
+        match call {
+            Call::Start => {
+                let served = start(desc, self.core.regs(), ports);
+                self.answer(served)
+            }
+            Call::Stop => {
+                let served = stop(desc, self.core.regs(), ports);
+                self.obey(served)
+            }
+            Call::Restart => {
+                let served = restart(desc, self.core.regs(), ports);
+                self.obey(served)
+            }
+            Call::GetStatus => {
+                let served = get_status(desc, self.core.regs(), ports);
+                self.answer(served)
+            }
+            _ => self.rule(call, desc, vpic, ports),
+        }
+    }
+
+    /// Answers the caller, unless it ended its own run: then it hears no reply.
+    fn obey(&mut self, served: Served) -> Act
+        ensures obeyed { (interrupts : Controller) → spec.obeying (record { reply = reply_of served.reply; act = act_of served.act }) self.old interrupts
+            ≡ record { cpu = self.new; interrupts = interrupts; act = act_of result } }
+        ensures act { result ≡ served.act }
+    {
+        match &served.act {
+            Act::SelfStop => self.go_on(Act::SelfStop),
+            Act::SelfRestart => self.go_on(Act::SelfRestart),
+            _ => self.answer(served),
+        }
+    }
+
+    /// Lets the core stand behind its `sc`.
+    fn go_on(&mut self, act: Act) -> Act
+        ensures gone { self.new ≡ spec.gone_on self.old }
+        ensures act { result ≡ act }
+    {
+        self.core.regs_mut().advance();
+        act
     }
 
     /// Does a call of the interrupt controller. Other services aren't built yet.

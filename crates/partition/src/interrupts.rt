@@ -7,7 +7,7 @@ ghost use Rattle.machine_desc.specs.Sound.{IsSound};
 ghost use Rattle.partition.specs.Port.{kinds_of, kind_of, kind_at, end_at};
 ghost use Rattle.partition.specs.Act.{act_of};
 ghost use Rattle.partition.specs.Interrupts as spec;
-ghost use Rattle.partition.specs.Lending.{HasHandle, IsQuiet};
+ghost use Rattle.partition.specs.Lending.{HasEntry, HasHandle, IsQuiet};
 
 use crate::channels::refusal;
 use crate::handles::is_send;
@@ -145,6 +145,7 @@ pub fn bell_at(handles: &[Port], handle: u32) -> Option<u8>
 pub fn doorbell_send(handles: &[Port], regs: &Regs) -> Served
     ensures served { spec.doorbell_send (kinds_of handles.now) regs.now ≡ record { reply = reply_of result.reply; act = act_of result.act } }
     ensures handle { HasHandle (kinds_of handles.now) result.act }
+    ensures entry { HasEntry result.act }
     ensures quiet { IsQuiet result.act }
 {
     let handle = regs.gpr(3);

@@ -24,6 +24,7 @@ mod interrupts;
 mod kind;
 mod laws;
 mod lone_machine;
+mod managing;
 mod mem_end;
 mod mem_ports;
 mod partition;
@@ -34,7 +35,9 @@ mod served;
 pub use acts::Acts;
 pub use handles::kind_at;
 pub use kind::Kind;
-pub use laws::{interrupts_stay_sound, refusals_are_quiet, translations_stay_sound};
+pub use laws::{
+    interrupts_stay_sound, refusals_are_quiet, restarts_forget, steps_act, translations_stay_sound,
+};
 pub use lone_machine::LoneMachine;
 pub use mem_ports::MemPorts;
 pub use partition::Partition;

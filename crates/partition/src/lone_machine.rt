@@ -1,6 +1,6 @@
 //! A lone machine: a partition with real memory of its own and with ports in memory.
 
-ghost use Rattle.std.specs.Prelude.{◌≡◌, ℕ, ◌+◌, ◌<◌, ◌≤◌, ◌↔◌, true, List, Some, length, map, IfOk, IfSome};
+ghost use Rattle.std.specs.Prelude.{◌≡◌, ℕ, ◌+◌, ◌%◌, ◌<◌, ◌≤◌, ◌↔◌, true, List, Some, length, map, IfOk, IfSome};
 ghost use Rattle.std.specs.List.{list_all};
 ghost use Rattle.ground.specs.Extents.{AreSmall};
 ghost use Rattle.machine_desc.specs.Sound.{IsSound};
@@ -9,10 +9,10 @@ ghost use Rattle.partition.specs.Port.{kinds_of, kind_at, end_at};
 ghost use Rattle.partition.specs.Act.{act_of, ports_after, state_after, steps_after};
 ghost use Rattle.partition.specs.Machine.{most_steps, fresh, shape_of, core_at, place_in};
 ghost use Rattle.partition.specs.Calling.{IsUnbuilt};
-ghost use Rattle.partition.specs.Event.{Room, Bytes, Ring, apply};
+ghost use Rattle.partition.specs.Event.{Room, Bytes, Ring, Tells, Start, Stop, Restart, apply};
 ghost use Rattle.partition.specs.Reservations.{with_kept};
 ghost use Rattle.partition.specs.Step as spec;
-ghost use Rattle.partition.specs.Lending.{HasBytes, HasHandle, IsOutstanding, IsStepped, KeepsUnbuilt};
+ghost use Rattle.partition.specs.Lending.{HasBytes, HasEntry, HasHandle, IsOutstanding, IsStepped, KeepsUnbuilt};
 ghost use Rattle.partition.specs.Loading.{have_extents};
 
 use crate::acts::Acts;
@@ -133,9 +133,48 @@ impl LoneMachine {
         ensures kept { KeepsUnbuilt result.act self.old self.new }
         ensures outstanding { IsOutstanding result.act self.new.machine.ports }
         ensures bytes { HasBytes result.act }
+        ensures entry { HasEntry result.act }
         ensures handle { HasHandle (kinds_of self.old.desc.ports) result.act }
     {
-        self.part.step(core, &mut self.memory, &mut self.ports)
+        let acts = self.part.step(core, &mut self.memory, &mut self.ports);
+        self.ports.settle(&acts.act);
+        acts
+    }
+
+    /// Its manager starts it at an effective address, and has its memory loaded anew or not.
+    #[tactic(auto, unfolding(crate::specs::Event::apply))]
+    pub fn start(&mut self, entry: u32, load: bool)
+        requires { entry % 4 ≡ 0 }
+        ensures { self.new ≡ record self.old { machine = apply self.old.desc self.old.machine (Start entry load) } }
+    {
+        self.part.start(entry, load, &mut self.memory);
+        self.ports.empty();
+    }
+
+    /// Its manager restarts it.
+    #[tactic(auto, unfolding(crate::specs::Event::apply))]
+    pub fn restart(&mut self)
+        ensures { self.new ≡ record self.old { machine = apply self.old.desc self.old.machine Restart } }
+    {
+        self.part.restart(&mut self.memory);
+        self.ports.empty();
+    }
+
+    /// Its manager stops it.
+    #[tactic(auto, unfolding(crate::specs::Event::apply))]
+    pub fn stop(&mut self)
+        ensures { self.new ≡ record self.old { machine = apply self.old.desc self.old.machine Stop } }
+    {
+        self.part.stop();
+    }
+
+    /// The partition that a handle manages runs now, or doesn't.
+    #[tactic(auto, unfolding(crate::specs::Event::apply))]
+    pub fn tell(&mut self, h: u32, runs: bool)
+        requires { kind_at (kinds_of self.old.desc.ports) h ≡ Some Kind.Manage }
+        ensures { self.new ≡ record self.old { machine = apply self.old.desc self.old.machine (Tells h runs) } }
+    {
+        self.ports.tell(h, runs);
     }
 
     /// The doorbell rings that a handle receives.

@@ -1,7 +1,9 @@
 //! Ports in memory.
 
 ghost use Rattle.std.specs.Prelude.{◌≡◌, ◌+◌, ◌≤◌, length, map, take, Some, IfOk};
-ghost use Rattle.partition.specs.Port.{kinds_of, kind_of, kind_at, end_at, come_on, freed_on, fresh_end};
+ghost use Rattle.partition.specs.Port.{kinds_of, kind_of, kind_at, end_at, come_on, freed_on, told_on, emptied, fresh_end};
+ghost use Rattle.partition.specs.Act.{act_of, settled};
+ghost use Rattle.partition.specs.Lending.{HasHandle};
 ghost use Rattle.partition.specs.MemPorts as spec;
 
 use crate::handles::kind_of;
@@ -9,7 +11,7 @@ use crate::kind::Kind;
 use crate::mem_end::MemEnd;
 use crate::ports::Ports;
 use byte_channel::{Channel, Side};
-use machine_desc::Port;
+use machine_desc::{Act, Port};
 use outside::NoMemory;
 use std::alloc::Global;
 use std::marker::Model;
@@ -82,6 +84,51 @@ impl MemPorts {
     }
 }
 
+impl MemPorts {
+    /// Notes whether the partition runs that a handle manages.
+    #[tactic(auto, using(crate::proofs::Ends::ends_told, crate::proofs::Ends::sorts_told, crate::proofs::Ends::is_there))]
+    pub fn tell(&mut self, h: u32, runs: bool)
+        requires manage { kind_at (spec.sorts_of self.old) h ≡ Some Kind.Manage }
+        ensures ends { spec.ends_of self.new ≡ told_on (spec.ends_of self.old) h runs }
+        ensures kinds { spec.sorts_of self.new ≡ spec.sorts_of self.old }
+    {
+        self.ends[(h - 1) as usize].runs = runs;
+    }
+
+    /// Drops what was received and not taken.
+    #[tactic(auto, using(crate::proofs::Ends::ends_emptied, crate::proofs::Ends::sorts_emptied))]
+    pub fn empty(&mut self)
+        ensures ends { spec.ends_of self.new ≡ emptied (spec.ends_of self.old) }
+        ensures kinds { spec.sorts_of self.new ≡ spec.sorts_of self.old }
+    {
+        empty_all(&mut self.ends);
+    }
+
+    /// Does what an act of the partition leaves to those who lend its ends.
+    pub fn settle(&mut self, act: &Act)
+        requires { HasHandle (spec.sorts_of self.old) act.now }
+        ensures ends { spec.ends_of self.new ≡ settled (act_of act.now) (spec.ends_of self.old) }
+        ensures kinds { spec.sorts_of self.new ≡ spec.sorts_of self.old }
+    {
+        match act {
+            Act::Start { h, .. } | Act::Restart { h } => self.tell(*h, true),
+            Act::Stop { h } => self.tell(*h, false),
+            Act::SelfRestart => self.empty(),
+            _ => {}
+        }
+    }
+}
+
+/// Drops what each end received.
+#[tactic(auto, using(crate::proofs::Written::one_more, crate::proofs::Written::all_kept))]
+fn empty_all(ends: &mut Vec<MemEnd>)
+    ensures { ends.new.items ≡ map spec.emptied_end ends.old.items }
+{
+    for place in 0..ends.len() {
+        let _count = ends[place].channel.clear_side(Side::A);
+    }
+}
+
 impl Ports for MemPorts {
     ghost kinds = { spec.sorts_of };
 
@@ -99,6 +146,11 @@ impl Ports for MemPorts {
     #[tactic(auto, using(crate::proofs::Ends::end_there, crate::proofs::Ends::is_there))]
     fn room(&self, h: u32) -> u16 {
         self.ends[(h - 1) as usize].channel.room(Side::A)
+    }
+
+    #[tactic(auto, using(crate::proofs::Ends::end_there, crate::proofs::Ends::is_there))]
+    fn running(&self, h: u32) -> bool {
+        self.ends[(h - 1) as usize].runs
     }
 
     #[tactic(auto, using(crate::proofs::Ends::sent_end, crate::proofs::Ends::ends_put, crate::proofs::Ends::sorts_put, crate::proofs::Ends::end_there, crate::proofs::Ends::is_there))]

@@ -1,24 +1,27 @@
 //! A partition: its machine but for its memory and for the ends of its channels, which it is lent.
 
-ghost use Rattle.std.specs.Prelude.{◌≡◌, ℕ, ◌<◌, ◌≤◌, ◌↔◌, List, length, map, slice_set, IfOk, IfSome};
+ghost use Rattle.std.specs.Prelude.{◌≡◌, ℕ, ◌%◌, ◌<◌, ◌≤◌, ◌↔◌, true, List, length, map, slice_set, IfOk, IfSome};
+ghost use Rattle.std.specs.List.{range_with_len};
 ghost use Rattle.ground.specs.Own.{own_of, KeepsForeign};
 ghost use Rattle.core_step.specs.Access.{SameSizes};
 ghost use Rattle.machine_desc.specs.Sound.{IsSound};
 ghost use Rattle.fresh_load.specs.Placed.{ArePlaced, extents_of};
-ghost use Rattle.partition.specs.Port.{End, kinds_of};
-ghost use Rattle.partition.specs.Act.{act_of, ports_after, state_after, steps_after};
-ghost use Rattle.partition.specs.Machine.{most_steps, fresh_inner, shape_of, core_at, place_in};
+ghost use Rattle.partition.specs.Port.{End, emptied, kinds_of};
+ghost use Rattle.partition.specs.Act.{act_of, called, settled, state_after, steps_after};
+ghost use Rattle.partition.specs.Machine.{most_steps, booted, fresh_inner, shape_of, core_at, place_in};
+ghost use Rattle.partition.specs.Anew.{started_inner};
 ghost use Rattle.partition.specs.Calling.{IsUnbuilt};
-ghost use Rattle.partition.specs.Event.{Ring, apply};
+ghost use Rattle.partition.specs.Event.{Ring, Start, Restart, apply};
 ghost use Rattle.partition.specs.Reservations.{with_kept};
 ghost use Rattle.partition.specs.Step as spec;
-ghost use Rattle.partition.specs.Lending.{Part, machine_of, Did, HasBytes, HasHandle, IsCoreStepped, IsStepped, KeepsUnbuilt};
+ghost use Rattle.partition.specs.Lending.{Part, machine_of, Did, HasBytes, HasEntry, HasHandle, IsCoreStepped, IsStepped, KeepsUnbuilt, Reloads, inner_after, restarts};
 
 use crate::acts::Acts;
 use crate::cpu::Cpu;
 use crate::interrupts::{bell_at, interrupt_count};
 use crate::ports::Ports;
 use core_step::{Core, Wrote};
+use fresh_load::reload;
 use ground::Ground;
 use machine_desc::{Act, Desc, Region, State};
 use outside::NoMemory;
@@ -120,6 +123,9 @@ impl Partition {
     /// Does one step of the core at this place, over the real memory and with the ends of the partition's channels. The
     /// machine does what is defined of it, and no byte outside the extents of its regions changes.
     ///
+    /// Of the ends of what its handles name it changes what it sends and takes. What its commands make of the partitions
+    /// that it manages, and what it received before it restarted itself, is up to those who lend them.
+    ///
     /// `NotBuilt` comes exactly for a hypercall with MSR[PR] clear whose token is that of a service that isn't built yet;
     /// then all is as before.
     pub fn step<P: Ports>(&mut self, core: usize, ground: &mut Ground, ports: &mut P) -> Acts
@@ -130,7 +136,7 @@ impl Partition {
         requires kinds { P.kinds ports.old ≡ kinds_of self.old.desc.ports }
         ensures stepped { (feed : List ℕ) → IsStepped (extents_of self.old.desc.regions)
             (spec.step self.old.desc (machine_of self.old (P.seen ports.old) ground.old) core feed)
-            (machine_of self.new (P.seen ports.new) ground.new) result.act result.shared.items }
+            (machine_of self.new (settled (act_of result.act) (P.seen ports.new)) ground.new) result.act result.shared.items }
         ensures unbuilt { result.act ≡ Act.NotBuilt
             ↔ IsUnbuilt (shape_of self.old.desc) (core_at self.old.inner.cores core) self.old.inner.interrupts (P.seen ports.old)
             (own_of (extents_of self.old.desc.regions) ground.old) }
@@ -145,14 +151,55 @@ impl Partition {
         ensures sizes { SameSizes ground.old ground.new }
         ensures placed { ArePlaced ground.new self.new.desc.regions }
         ensures bytes { HasBytes result.act }
+        ensures entry { HasEntry result.act }
         ensures handle { HasHandle (kinds_of self.old.desc.ports) result.act }
-        ensures seen { P.seen ports.new ≡ ports_after (act_of result.act) (P.seen ports.old) }
+        ensures seen { P.seen ports.new ≡ called (act_of result.act) (P.seen ports.old) }
         ensures same { P.kinds ports.new ≡ P.kinds ports.old }
         ensures did { Did P.sends P.takes result.act ports.old ports.new }
     {
         let acts = self.step_core(core, ground, ports);
-        self.settle(&acts.act);
+        self.settle(&acts.act, ground);
         acts
+    }
+
+    /// Its manager starts it: it begins at an effective address, and its memory is loaded anew or stays as it is. Shared
+    /// regions stay, and no byte outside its private ones changes. What it received is gone, which is up to those who lend
+    /// its ends. Takes no memory.
+    pub fn start(&mut self, entry: u32, load: bool, ground: &mut Ground)
+        requires entry { entry % 4 ≡ 0 }
+        requires placed { ArePlaced ground.old self.old.desc.regions }
+        ensures started { (ends : List End) → machine_of self.new (emptied ends) ground.new
+            ≡ apply self.old.desc (machine_of self.old ends ground.old) (Start entry load) }
+        ensures desc { self.new.desc ≡ self.old.desc }
+        ensures steps { self.new.inner.steps ≡ self.old.inner.steps }
+        ensures cores { length self.new.inner.cores ≡ length self.old.inner.cores }
+        ensures memory { Reloads load self.old.desc ground.old ground.new }
+    {
+        self.boot(entry);
+        reload_if(&self.desc, load, ground);
+    }
+
+    /// Its manager restarts it: it begins where its description says, with its memory loaded anew. Shared regions stay, and
+    /// no byte outside its private ones changes. What it received is gone, which is up to those who lend its ends. Takes no
+    /// memory.
+    pub fn restart(&mut self, ground: &mut Ground)
+        requires placed { ArePlaced ground.old self.old.desc.regions }
+        ensures restarted { (ends : List End) → machine_of self.new (emptied ends) ground.new
+            ≡ apply self.old.desc (machine_of self.old ends ground.old) Restart }
+        ensures desc { self.new.desc ≡ self.old.desc }
+        ensures steps { self.new.inner.steps ≡ self.old.inner.steps }
+        ensures cores { length self.new.inner.cores ≡ length self.old.inner.cores }
+        ensures memory { Reloads true self.old.desc ground.old ground.new }
+    {
+        self.boot(self.desc.entry);
+        reload_if(&self.desc, true, ground);
+    }
+
+    /// Its manager stops it.
+    pub fn stop(&mut self)
+        ensures { self.new ≡ record self.old { inner = record self.old.inner { state = State.Stopped } } }
+    {
+        self.state = State::Stopped;
     }
 
     /// The doorbell rings that a handle receives, and nothing happens where it receives none.
@@ -195,24 +242,23 @@ impl Partition {
         ensures others { KeepsForeign (extents_of self.old.desc.regions) ground.old ground.new }
         ensures sizes { SameSizes ground.old ground.new }
         ensures bytes { HasBytes result.act }
+        ensures entry { HasEntry result.act }
         ensures handle { HasHandle (kinds_of self.old.desc.ports) result.act }
-        ensures seen { P.seen ports.new ≡ ports_after (act_of result.act) (P.seen ports.old) }
+        ensures seen { P.seen ports.new ≡ called (act_of result.act) (P.seen ports.old) }
         ensures same { P.kinds ports.new ≡ P.kinds ports.old }
         ensures did { Did P.sends P.takes result.act ports.old ports.new }
     {
         self.cores[core].step(&self.desc, &mut self.vpic, ground, ports)
     }
 
-    /// Counts the step, and stops where it says so.
-    fn settle(&mut self, act: &Act)
+    /// Counts the step, and stops or restarts where it says so.
+    fn settle(&mut self, act: &Act, ground: &mut Ground)
         requires running { self.old.inner.state ≡ State.Running }
         requires few { self.old.inner.steps < most_steps }
-        ensures { self.new ≡ record self.old {
-          inner = record self.old.inner {
-            state = state_after (act_of act.now);
-            steps = steps_after (act_of act.now) self.old.inner.steps;
-          };
-        } }
+        requires placed { ArePlaced ground.old self.old.desc.regions }
+        ensures inner { self.new ≡ record self.old { inner = inner_after self.old.desc (act_of act.now) self.old.inner } }
+        ensures cores { length self.new.inner.cores ≡ length self.old.inner.cores }
+        ensures memory { Reloads (restarts (act_of act.now)) self.old.desc ground.old ground.new }
     {
         match act {
             Act::NotBuilt => {}
@@ -224,8 +270,47 @@ impl Partition {
                 self.state = State::Stopped;
                 self.steps += 1;
             }
+            Act::SelfRestart => {
+                self.steps += 1;
+                self.restart(ground);
+            }
             _ => self.steps += 1,
         }
+    }
+
+    /// Its cores and its interrupts are as they begin, and it runs from the entry on.
+    fn boot(&mut self, entry: u32)
+        requires { entry % 4 ≡ 0 }
+        ensures inner { self.new ≡ record self.old { inner = started_inner self.old.desc entry self.old.inner } }
+        ensures cores { length self.new.inner.cores ≡ length self.old.inner.cores }
+    {
+        let tree_at = self.desc.tree_at as u32;
+        reboot_all(&mut self.cores, entry, tree_at);
+        self.vpic = Vpic::new(interrupt_count(&self.desc));
+        self.state = State::Running;
+    }
+}
+
+/// Loads the private memory of a partition anew, or lets it stand.
+#[tactic(auto, using(crate::proofs::Anew::loads_anew, crate::proofs::Anew::stays_loaded))]
+fn reload_if(desc: &Desc, load: bool, ground: &mut Ground)
+    requires sound { IsSound desc.now }
+    requires placed { ArePlaced ground.old desc.now.regions }
+    ensures { Reloads load desc.now ground.old ground.new }
+{
+    if load {
+        reload(desc, ground);
+    }
+}
+
+/// Each core begins at the entry.
+fn reboot_all(cores: &mut Vec<Cpu>, entry: u32, tree_at: u32)
+    requires entry { entry % 4 ≡ 0 }
+    requires few { length cores.old.items ≤ 8 }
+    ensures { cores.new.items ≡ map (λ (number : ℕ). booted entry tree_at number) (range_with_len 0 (length cores.old.items)) }
+{
+    for core in 0..cores.len() {
+        cores[core].reboot(entry, tree_at, core as u32);
     }
 }
 

@@ -4,7 +4,7 @@ ghost use Rattle.std.specs.Prelude.{◌≡◌, ℕ, ◌+◌, ◌≤◌, List, So
 ghost use Rattle.partition.specs.declared.kind.Kind.{Kind};
 ghost use Rattle.partition.specs.Port.{End, kind_at, end_at, sent_on, taken_on};
 
-/// The ends of a partition's channels, lent to it by whoever joins the partitions. Each `h` is a handle, from 1.
+/// The ends of what a partition's handles name, lent to it by whoever joins the partitions. Each `h` is a handle, from 1.
 /// Contracts see the kind of each handle and what the machine has of it. No call takes memory.
 pub trait Ports {
     /// Of which kind each handle is.
@@ -28,6 +28,11 @@ pub trait Ports {
     fn room(&self, h: u32) -> u16
         requires { kind_at (kinds self.now) h ≡ Some Kind.Channel }
         ensures { result + (end_at (seen self.now) h).outstanding ≡ 256 };
+
+    /// Whether the partition runs that the handle manages.
+    fn running(&self, h: u32) -> bool
+        requires { kind_at (kinds self.now) h ≡ Some Kind.Manage }
+        ensures { result ≡ (end_at (seen self.now) h).runs };
 
     /// Sends bytes, which fit the room.
     fn send(&mut self, h: u32, piece: &[u8])

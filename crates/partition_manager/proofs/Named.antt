@@ -9,7 +9,7 @@ use Rattle.machine_desc.specs.declared.desc.Span.{Span}
 use Rattle.hcall_abi.specs.Status.{own_handle}
 use Rattle.hcall_abi.specs.declared.status.Status.TheVariants.{InvalidArgument, InvalidState}
 use Rattle.partition_manager.specs.declared.decision.Decision.TheVariants.{Go}
-use Rattle.partition_manager.specs.Decisions.{is_manage, port_at, is_manage_at, names_partition, is_entry, refused, decide_start, decide_stop, decide_restart, decide_status}
+use Rattle.partition_manager.specs.Decisions.{is_manage, port_at, is_manage_at, names_partition, is_entry, refused, decide_start, decide_stop, decide_restart}
 
 -- ---- handles by what is read of them
 
@@ -24,16 +24,6 @@ sort_of_port sort ports handle = by_zero (handle == 0)
     by_zero : (none : Bool) → cond none None (slice_get (map sort ports) (handle - 1)) ≡ option_map sort (cond none None (slice_get ports (handle - 1)))
     by_zero true = refl
     by_zero false = slice_get-map sort ports (handle - 1)
-
--- Where a test of sorts tells managed partitions, it tells their handles.
-pub is_manage_by_sort : {X : Type 0} (sort : Port → X) (is_chosen : X → Bool) → ((port : Port) → is_chosen (sort port) ≡ is_manage port) → (ports : List Port) (handle : ℕ)
-    → option_map_or is_chosen (sort_at (map sort ports) handle) false ≡ is_manage_at ports handle
-is_manage_by_sort sort is_chosen same ports handle =
-    ap (λ found. option_map_or is_chosen found false) (sort_of_port sort ports handle) ∙ by_port (port_at ports handle)
-  where
-    by_port : (found : Option Port) → option_map_or is_chosen (option_map sort found) false ≡ option_map_or is_manage found false
-    by_port None = refl
-    by_port (Some port) = same port
 
 -- The handle of a managed partition is of the sort that all such ports are.
 pub managed_sort : {X : Type 0} (sort : Port → X) (managed : X) → ((part : ℕ) (held : Bool) (private : List Span) → sort (Manage part held private) ≡ managed) → (ports : List Port) (handle : ℕ)
@@ -80,14 +70,6 @@ pub start_goes : (ports : List Port) (handle entry : ℕ) (running : Bool) → d
 unfolding decide_start
 start_goes ports handle entry running goes =
     let (named, (state, may)) = stopped_goes (names_partition ports handle) (is_entry entry) running goes in (record { named = named; state = state }, may)
-
-status_named : (named : Bool) → cond (not named) (refused InvalidArgument) Go ≡ Go → named ≡ true
-status_named true goes = refl
-status_named false goes = absurd (cc)
-
-pub status_goes : (ports : List Port) (handle : ℕ) → decide_status ports handle ≡ Go → names_partition ports handle ≡ true
-unfolding decide_status
-status_goes ports handle goes = status_named (names_partition ports handle) goes
 
 -- one that isn't the caller itself is a managed one
 pub named_is_managed : (ports : List Port) (handle : ℕ) → names_partition ports handle ≡ true → (handle == own_handle) ≡ false → is_manage_at ports handle ≡ true
