@@ -1,7 +1,7 @@
 -- What a system keeps over a turn.
-use Rattle.std.proofs.Common.{◌≡◌, ◌≢◌, ℕ, ◌+◌, ◌<◌, ◌==◌, Bool, true, false, List, length, slice_index_or, Option, Some, None, refl, sym, ap, subst, ◌∙◌, arith, length-set}
-use Rattle.std.proofs.lemmas.Bool.{false≢true, eqb-true}
-use Rattle.std.proofs.lemmas.List.{length-map, get_or-map}
+use Rattle.std.proofs.Common.{◌≡◌, ◌≢◌, ℕ, ◌+◌, ◌<◌, ◌==◌, Bool, true, false, List, length, slice_index_or, slice_set, Option, Some, None, refl, sym, ap, subst, ◌∙◌, arith, length-set}
+use Rattle.std.proofs.lemmas.Bool.{false≢true, eqb-true, eqb-false}
+use Rattle.std.proofs.lemmas.List.{length-map, get_or-map, get_or-set_same, get_or-set_other}
 use Rattle.byte_channel.specs.declared.side.Side.{Side}
 use Rattle.byte_channel.specs.declared.side.Side.TheVariants.{A, B}
 use Rattle.byte_channel.specs.Waiting.{Waiting, other_side, waiting_at, after_receive}
@@ -13,7 +13,7 @@ use Rattle.machine_desc.specs.declared.wiring.PortRef.{PortRef}
 use Rattle.machine_desc.specs.declared.wiring.End.{End as LinkEnd}
 use Rattle.machine_desc.specs.declared.wiring.End.TheVariants.{Part, Console}
 use Rattle.machine_desc.specs.Joined.{is_at, AreJoined}
-use Rattle.fresh_load.specs.Placed.{ArePlaced}
+use Rattle.fresh_load.specs.Placed.{ArePlaced, sizes_of}
 use Rattle.fresh_load.proofs.Places.{all_still_placed}
 use Rattle.partition.specs.declared.kind.Kind.TheVariants as kind
 use Rattle.partition.specs.Port.{kind_at, kinds_of as described_kinds}
@@ -25,13 +25,14 @@ use Rattle.network.specs.World.{Counts}
 use Rattle.network.specs.Effects.{count_printed, printed_by}
 use Rattle.system.specs.declared.wire.Wire.{Wire}
 use Rattle.system.specs.declared.wire.Wire.TheVariants.{Channel}
-use Rattle.system.specs.Board.{Lines, channel_at, kinds_of, wires_at, own_wire, sent_by, taken_by, Sends, Takes}
-use Rattle.system.specs.Wired.{all_wires}
+use Rattle.system.specs.Board.{Lines, channel_at, kinds_of, wires_at, own_wire, emptied_lines, sent_by, taken_by, Sends, Takes}
+use Rattle.system.specs.Wired.{all_wires, console_side}
 use Rattle.system.specs.System.{Held, no_part, part_at, descs_of, network_of, AreTaken, IsSystem}
-use Rattle.system.specs.Turning.{HasConsole, Settles, marked_lines, printed_lines}
+use Rattle.system.specs.Turning.{HasConsole, Settles, managed_by, marked_lines, printed_lines, stopped_part}
 use Rattle.system.proofs.Tied.{no_link, end_at}
 use Rattle.system.proofs.Far.{IsOwn}
 use Rattle.system.proofs.Opened.{same_lists}
+use Rattle.system.proofs.Emptied.{all_cleared_long, all_still_none}
 use Rattle.system.proofs.Entered.{still_taken, sent_taken}
 use Rattle.system.proofs.Rung.{keeps_desc, keeps_steps}
 use Rattle.system.proofs.Told.{IsHeard, heard_long, heard_own, heard_other, heard_desc}
@@ -114,37 +115,71 @@ printed_keeps held lines left handle bytes kept here sort same l = by_far (far_o
     by_far (Some (Console console)) e =
         same_lines held left kept (left_is ∙ (ap (λ (far : Option LinkEnd). printed_lines far handle (sent_lines held.lines handle bytes)) e ∙ printed_same held handle console bytes kept here sort e))
 
-lines_kept : (held : Held) (heard rung : List Member) (lines left : Lines) (act : Told) (counts new : List Counts) → IsSystem held → held.lines.who < length held.parts → Did Sends Takes act held.lines lines
-    → HasHandle (described_kinds (part_at held.parts held.lines.who).desc.ports) act → Settles held.wiring held.lines.who act heard rung lines left counts new → KeepsLines held left
-lines_kept held heard rung lines left (told.Sent on bytes) counts new kept here did handle s = printed_keeps held lines left on bytes.items kept here (sort_of held on kept here handle) did s.1
-lines_kept held heard rung lines left (told.Took on count) counts new kept here did handle s =
+-- the ends of a partition were emptied
+emptied_keeps : (held : Held) (left lines : Lines) (part : ℕ) → IsSystem held → KeepsLines held lines → left ≡ emptied_lines lines part → KeepsLines held left
+emptied_keeps held left lines part kept keeps e =
+    subst (λ (ls : Lines). KeepsLines held ls) (sym e)
+    (
+    record {
+      wires = keeps.wires;
+      running = keeps.running;
+      channels = all_cleared_long (wires_at lines.wires part) lines.channels ∙ keeps.channels;
+      consoles = keeps.consoles;
+      taken = λ console there. let it = console_side held.wiring.links console in all_still_none (wires_at lines.wires part) lines.channels it.link it.side (keeps.taken console there);
+    }
+    )
+
+lent_marked : (held : Held) (lent : Lines) (managed : ℕ) (runs : Bool) → IsSystem held → lent ≡ held.lines → KeepsLines held (marked_lines lent managed runs)
+lent_marked held lent managed runs kept e =
+    subst (λ (ls : Lines). KeepsLines held (marked_lines ls managed runs)) (sym e)
+    (record { wires = refl; running = length-set held.lines.running managed runs; channels = refl; consoles = refl; taken = kept.taken })
+
+lines_kept : (held : Held) (heard rung : List Member) (memory loaded : List (List ℕ)) (lines left : Lines) (act : Told) (counts new : List Counts) → IsSystem held → held.lines.who < length held.parts → Did Sends Takes act held.lines lines
+    → HasHandle (described_kinds (part_at held.parts held.lines.who).desc.ports) act → Settles held.wiring held.lines.who act heard rung memory loaded lines left counts new → KeepsLines held left
+lines_kept held heard rung memory loaded lines left (told.Sent on bytes) counts new kept here did handle s = printed_keeps held lines left on bytes.items kept here (sort_of held on kept here handle) did s.1
+lines_kept held heard rung memory loaded lines left (told.Took on count) counts new kept here did handle s =
     subst (λ (ls : Lines). KeepsLines held ls) (sym (s.1 ∙ did)) (taken_keeps held on count kept here (sort_of held on kept here handle))
-lines_kept held heard rung lines left (told.Rang on) counts new kept here did handle s = same_lines held left kept (s.1 ∙ did)
-lines_kept held heard rung lines left told.SelfStop counts new kept here did handle s = marked_keeps held left kept (s.1 ∙ ap (λ (ls : Lines). marked_lines ls held.lines.who false) did)
-lines_kept held heard rung lines left told.Faulted counts new kept here did handle s = marked_keeps held left kept (s.1 ∙ ap (λ (ls : Lines). marked_lines ls held.lines.who false) did)
-lines_kept held heard rung lines left _ counts new kept here did handle s = same_lines held left kept (s.1 ∙ did)
+lines_kept held heard rung memory loaded lines left (told.Rang on) counts new kept here did handle s = same_lines held left kept (s.1 ∙ did)
+lines_kept held heard rung memory loaded lines left (told.Start on entry load) counts new kept here did handle s =
+    emptied_keeps held left (marked_lines lines (managed_by (own_wire lines on)) true) (managed_by (own_wire lines on)) kept (lent_marked held lines (managed_by (own_wire lines on)) true kept did) s.1
+lines_kept held heard rung memory loaded lines left (told.Restart on) counts new kept here did handle s =
+    emptied_keeps held left (marked_lines lines (managed_by (own_wire lines on)) true) (managed_by (own_wire lines on)) kept (lent_marked held lines (managed_by (own_wire lines on)) true kept did) s.1
+lines_kept held heard rung memory loaded lines left (told.Stop on) counts new kept here did handle s =
+    subst (λ (ls : Lines). KeepsLines held ls) (sym s.1) (lent_marked held lines (managed_by (own_wire lines on)) false kept did)
+lines_kept held heard rung memory loaded lines left told.SelfRestart counts new kept here did handle s = emptied_keeps held left lines held.lines.who kept (same_lines held lines kept did) s.1
+lines_kept held heard rung memory loaded lines left told.SelfStop counts new kept here did handle s = marked_keeps held left kept (s.1 ∙ ap (λ (ls : Lines). marked_lines ls held.lines.who false) did)
+lines_kept held heard rung memory loaded lines left told.Faulted counts new kept here did handle s = marked_keeps held left kept (s.1 ∙ ap (λ (ls : Lines). marked_lines ls held.lines.who false) did)
+lines_kept held heard rung memory loaded lines left _ counts new kept here did handle s = same_lines held left kept (s.1 ∙ did)
 
 -- ---- consoles
 
-pub printed_so : (held : Held) (heard rung : List Member) (lines left : Lines) (act : Told) (counts new : List Counts) → Settles held.wiring held.lines.who act heard rung lines left counts new
+pub printed_so : (held : Held) (heard rung : List Member) (memory loaded : List (List ℕ)) (lines left : Lines) (act : Told) (counts new : List Counts) → Settles held.wiring held.lines.who act heard rung memory loaded lines left counts new
     → new ≡ printed_by (network_of held) held.lines.who (act_of act) counts
-printed_so held heard rung lines left (told.Sent on bytes) counts new s = s.2
-printed_so held heard rung lines left (told.Rang on) counts new s = s.2
-printed_so held heard rung lines left told.SelfStop counts new s = s.2
-printed_so held heard rung lines left told.Faulted counts new s = s.2
-printed_so held heard rung lines left _ counts new s = s.2
+printed_so held heard rung memory loaded lines left (told.Sent on bytes) counts new s = s.2
+printed_so held heard rung memory loaded lines left (told.Rang on) counts new s = s.2
+printed_so held heard rung memory loaded lines left (told.Start on entry load) counts new s = s.2
+printed_so held heard rung memory loaded lines left (told.Restart on) counts new s = s.2
+printed_so held heard rung memory loaded lines left (told.Stop on) counts new s = s.2
+printed_so held heard rung memory loaded lines left told.SelfRestart counts new s = s.2
+printed_so held heard rung memory loaded lines left told.SelfStop counts new s = s.2
+printed_so held heard rung memory loaded lines left told.Faulted counts new s = s.2
+printed_so held heard rung memory loaded lines left _ counts new s = s.2
 
 printed_long : (far : Option LinkEnd) (count : ℕ) (counts : List Counts) → length (count_printed far count counts) ≡ length counts
 printed_long None count counts = refl
 printed_long (Some (Part ref)) count counts = refl
 printed_long (Some (Console console)) count counts = length-set counts console _
 
-counts_long : (held : Held) (heard rung : List Member) (lines left : Lines) (act : Told) (counts new : List Counts) → Settles held.wiring held.lines.who act heard rung lines left counts new → length new ≡ length counts
-counts_long held heard rung lines left (told.Sent on bytes) counts new s = ap length s.2 ∙ printed_long (far_of (network_of held) held.lines.who on) (length bytes.items) counts
-counts_long held heard rung lines left (told.Rang on) counts new s = ap length s.2
-counts_long held heard rung lines left told.SelfStop counts new s = ap length s.2
-counts_long held heard rung lines left told.Faulted counts new s = ap length s.2
-counts_long held heard rung lines left _ counts new s = ap length s.2
+counts_long : (held : Held) (heard rung : List Member) (memory loaded : List (List ℕ)) (lines left : Lines) (act : Told) (counts new : List Counts) → Settles held.wiring held.lines.who act heard rung memory loaded lines left counts new → length new ≡ length counts
+counts_long held heard rung memory loaded lines left (told.Sent on bytes) counts new s = ap length s.2 ∙ printed_long (far_of (network_of held) held.lines.who on) (length bytes.items) counts
+counts_long held heard rung memory loaded lines left (told.Rang on) counts new s = ap length s.2
+counts_long held heard rung memory loaded lines left (told.Start on entry load) counts new s = ap length s.2
+counts_long held heard rung memory loaded lines left (told.Restart on) counts new s = ap length s.2
+counts_long held heard rung memory loaded lines left (told.Stop on) counts new s = ap length s.2
+counts_long held heard rung memory loaded lines left told.SelfRestart counts new s = ap length s.2
+counts_long held heard rung memory loaded lines left told.SelfStop counts new s = ap length s.2
+counts_long held heard rung memory loaded lines left told.Faulted counts new s = ap length s.2
+counts_long held heard rung memory loaded lines left _ counts new s = ap length s.2
 
 -- ---- partitions
 
@@ -156,26 +191,63 @@ record KeepsDescs (heard rung : List Member) : Type 0 where
 same_descs : (heard rung : List Member) → rung ≡ heard → KeepsDescs heard rung
 same_descs heard rung e = record { count = ap length e; each = λ part there. ap (λ (ps : List Member). (part_at ps part).desc) e; steps = λ part there. ap (λ (ps : List Member). (part_at ps part).inner.steps) e }
 
-descs_kept : (held : Held) (heard rung : List Member) (lines left : Lines) (act : Told) (counts new : List Counts) → Settles held.wiring held.lines.who act heard rung lines left counts new → KeepsDescs heard rung
-descs_kept held heard rung lines left (told.Sent on bytes) counts new s = same_descs heard rung s.0
-descs_kept held heard rung lines left (told.Rang on) counts new s =
+-- one partition has another state, or began anew
+one_changed : (heard rung : List Member) (managed : ℕ) (own : Member) → rung ≡ slice_set heard managed own → own.desc ≡ (part_at heard managed).desc → own.inner.steps ≡ (part_at heard managed).inner.steps → KeepsDescs heard rung
+one_changed heard rung managed own e desc steps = record {
+  count = ap length e ∙ length-set heard managed own;
+  each = λ part there. ap (λ (ps : List Member). (part_at ps part).desc) e ∙ desc_of part there (part == managed) refl;
+  steps = λ part there. ap (λ (ps : List Member). (part_at ps part).inner.steps) e ∙ steps_of part there (part == managed) refl;
+}
+  where
+    desc_of : (part : ℕ) → part < length heard → (b : Bool) → (part == managed) ≡ b → (part_at (slice_set heard managed own) part).desc ≡ (part_at heard part).desc
+    desc_of part there false f = ap (λ (p : Member). p.desc) (get_or-set_other heard managed part own no_part (eqb-false part managed f))
+    desc_of part there true f =
+        subst (λ (n : ℕ). n < length heard → (part_at (slice_set heard managed own) n).desc ≡ (part_at heard n).desc) (sym (eqb-true part managed f))
+        (λ here. ap (λ (p : Member). p.desc) (get_or-set_same heard managed own no_part here) ∙ desc) there
+
+    steps_of : (part : ℕ) → part < length heard → (b : Bool) → (part == managed) ≡ b → (part_at (slice_set heard managed own) part).inner.steps ≡ (part_at heard part).inner.steps
+    steps_of part there false f = ap (λ (p : Member). p.inner.steps) (get_or-set_other heard managed part own no_part (eqb-false part managed f))
+    steps_of part there true f =
+        subst (λ (n : ℕ). n < length heard → (part_at (slice_set heard managed own) n).inner.steps ≡ (part_at heard n).inner.steps) (sym (eqb-true part managed f))
+        (λ here. ap (λ (p : Member). p.inner.steps) (get_or-set_same heard managed own no_part here) ∙ steps) there
+
+descs_kept : (held : Held) (heard rung : List Member) (memory loaded : List (List ℕ)) (lines left : Lines) (act : Told) (counts new : List Counts) → Settles held.wiring held.lines.who act heard rung memory loaded lines left counts new → KeepsDescs heard rung
+descs_kept held heard rung memory loaded lines left (told.Sent on bytes) counts new s = same_descs heard rung s.0
+descs_kept held heard rung memory loaded lines left (told.Rang on) counts new s =
     let rings = s.0 in
     record {
       count = rings.count;
       each = λ part there. ap (λ (p : Member). p.desc) (rings.each part there) ∙ keeps_desc held.wiring.bells (ref_to held.lines.who on) part (length (part_at heard part).desc.ports) (part_at heard part);
       steps = λ part there. ap (λ (p : Member). p.inner.steps) (rings.each part there) ∙ keeps_steps held.wiring.bells (ref_to held.lines.who on) part (length (part_at heard part).desc.ports) (part_at heard part);
     }
-descs_kept held heard rung lines left told.SelfStop counts new s = same_descs heard rung s.0
-descs_kept held heard rung lines left told.Faulted counts new s = same_descs heard rung s.0
-descs_kept held heard rung lines left _ counts new s = same_descs heard rung s.0
+descs_kept held heard rung memory loaded lines left (told.Start on entry load) counts new s = let b = s.0 in one_changed heard rung (managed_by (own_wire lines on)) (part_at rung (managed_by (own_wire lines on))) b.parts b.desc b.steps
+descs_kept held heard rung memory loaded lines left (told.Restart on) counts new s = let b = s.0 in one_changed heard rung (managed_by (own_wire lines on)) (part_at rung (managed_by (own_wire lines on))) b.parts b.desc b.steps
+descs_kept held heard rung memory loaded lines left (told.Stop on) counts new s = one_changed heard rung (managed_by (own_wire lines on)) (stopped_part (part_at heard (managed_by (own_wire lines on)))) s.0 refl refl
+descs_kept held heard rung memory loaded lines left told.SelfRestart counts new s = same_descs heard rung s.0
+descs_kept held heard rung memory loaded lines left told.SelfStop counts new s = same_descs heard rung s.0
+descs_kept held heard rung memory loaded lines left told.Faulted counts new s = same_descs heard rung s.0
+descs_kept held heard rung memory loaded lines left _ counts new s = same_descs heard rung s.0
+
+-- no extent's size changes
+sizes_kept : (held : Held) (heard rung : List Member) (memory loaded : List (List ℕ)) (lines left : Lines) (act : Told) (counts new : List Counts) → Settles held.wiring held.lines.who act heard rung memory loaded lines left counts new
+    → sizes_of loaded ≡ sizes_of memory
+sizes_kept held heard rung memory loaded lines left (told.Sent on bytes) counts new s = ap sizes_of s.3
+sizes_kept held heard rung memory loaded lines left (told.Rang on) counts new s = ap sizes_of s.3
+sizes_kept held heard rung memory loaded lines left (told.Start on entry load) counts new s = let b = s.0 in b.sizes
+sizes_kept held heard rung memory loaded lines left (told.Restart on) counts new s = let b = s.0 in b.sizes
+sizes_kept held heard rung memory loaded lines left (told.Stop on) counts new s = ap sizes_of s.3
+sizes_kept held heard rung memory loaded lines left told.SelfRestart counts new s = ap sizes_of s.3
+sizes_kept held heard rung memory loaded lines left told.SelfStop counts new s = ap sizes_of s.3
+sizes_kept held heard rung memory loaded lines left told.Faulted counts new s = ap sizes_of s.3
+sizes_kept held heard rung memory loaded lines left _ counts new s = ap sizes_of s.3
 
 -- one of them counts the step, if it is counted
-pub counts_step : (held : Held) (stepped heard rung : List Member) (memory : List (List ℕ)) (lines left : Lines) (core : ℕ) (act : Told) (ranges : List Wrote) (counts new : List Counts)
-    → IsHeard held stepped heard memory lines core act ranges → Settles held.wiring held.lines.who act heard rung lines left counts new → ((n : ℕ) → steps_after (act_of act) n ≡ n + 1)
+pub counts_step : (held : Held) (stepped heard rung : List Member) (memory loaded : List (List ℕ)) (lines left : Lines) (core : ℕ) (act : Told) (ranges : List Wrote) (counts new : List Counts)
+    → (h : IsHeard held stepped heard memory lines core act ranges) → Settles held.wiring held.lines.who act heard rung memory loaded h.is.lent left counts new → ((n : ℕ) → steps_after (act_of act) n ≡ n + 1)
     → CountsStep held.lines.who held.parts rung
-counts_step held stepped heard rung memory lines left core act ranges counts new h s more =
+counts_step held stepped heard rung memory loaded lines left core act ranges counts new h s more =
     let who : ℕ = held.lines.who in
-    let keeps = descs_kept held heard rung lines left act counts new s in
+    let keeps = descs_kept held heard rung memory loaded h.is.lent left act counts new s in
     let long = heard_long held stepped heard memory lines core act ranges h in
     let here = h.is.who in
     record {
@@ -192,10 +264,10 @@ counts_step held stepped heard rung memory lines left core act ranges counts new
 -- ---- all of it
 
 -- the descriptions stay
-pub descs_stay : (held : Held) (stepped heard rung : List Member) (memory : List (List ℕ)) (lines left : Lines) (core : ℕ) (act : Told) (ranges : List Wrote) (counts new : List Counts)
-    → IsHeard held stepped heard memory lines core act ranges → Settles held.wiring held.lines.who act heard rung lines left counts new → descs_of rung ≡ descs_of held.parts
-descs_stay held stepped heard rung memory lines left core act ranges counts new h s =
-    let keeps = descs_kept held heard rung lines left act counts new s in
+pub descs_stay : (held : Held) (stepped heard rung : List Member) (memory loaded : List (List ℕ)) (lines left : Lines) (core : ℕ) (act : Told) (ranges : List Wrote) (counts new : List Counts)
+    → (h : IsHeard held stepped heard memory lines core act ranges) → Settles held.wiring held.lines.who act heard rung memory loaded h.is.lent left counts new → descs_of rung ≡ descs_of held.parts
+descs_stay held stepped heard rung memory loaded lines left core act ranges counts new h s =
+    let keeps = descs_kept held heard rung memory loaded h.is.lent left act counts new s in
     let long = heard_long held stepped heard memory lines core act ranges h in
     let count = keeps.count in
     let news : length (descs_of rung) ≡ length rung = length-map rung (λ (p : Member). p.desc) in
@@ -207,15 +279,15 @@ descs_stay held stepped heard rung memory lines left core act ranges counts new 
     ∙ (keeps.each part (omega (arith, within, long))
     ∙ (heard_desc held stepped heard memory lines core act ranges part h within ∙ sym (get_or-map (λ (p : Member). p.desc) held.parts part no_part no_desc within))))
 
-pub turn_kept : (held : Held) (stepped heard rung : List Member) (memory : List (List ℕ)) (lines left : Lines) (core : ℕ) (act : Told) (ranges : List Wrote) (new : List Counts) (unbuilt : Option ℕ)
-    → IsHeard held stepped heard memory lines core act ranges → Settles held.wiring held.lines.who act heard rung lines left held.counts new → ((n : ℕ) → steps_after (act_of act) n ≡ n + 1)
+pub turn_kept : (held : Held) (stepped heard rung : List Member) (memory loaded : List (List ℕ)) (lines left : Lines) (core : ℕ) (act : Told) (ranges : List Wrote) (new : List Counts) (unbuilt : Option ℕ)
+    → (h : IsHeard held stepped heard memory lines core act ranges) → Settles held.wiring held.lines.who act heard rung memory loaded h.is.lent left held.counts new → ((n : ℕ) → steps_after (act_of act) n ≡ n + 1)
     → (part_at held.parts held.lines.who).inner.steps < most_steps → ((handle : ℕ) → HasConsole (length held.counts) (far_of (network_of held) held.lines.who handle))
-    → IsSystem (left_by held rung memory left new unbuilt)
-turn_kept held stepped heard rung memory lines left core act ranges new unbuilt h s more few has =
+    → IsSystem (left_by held rung loaded left new unbuilt)
+turn_kept held stepped heard rung memory loaded lines left core act ranges new unbuilt h s more few has =
     let kept = h.is.kept in
-    let descs = descs_stay held stepped heard rung memory lines left core act ranges held.counts new h s in
-    let board = lines_kept held heard rung lines left act held.counts new kept h.is.who h.is.step.did h.is.step.handle s in
-    let keeps = descs_kept held heard rung lines left act held.counts new s in
+    let descs = descs_stay held stepped heard rung memory loaded lines left core act ranges held.counts new h s in
+    let board = lines_kept held heard rung memory loaded h.is.lent left act held.counts new kept h.is.who h.is.step.did h.is.step.handle s in
+    let keeps = descs_kept held heard rung memory loaded h.is.lent left act held.counts new s in
     let long = heard_long held stepped heard memory lines core act ranges h in
     let count = keeps.count in
     record {
@@ -224,12 +296,12 @@ turn_kept held stepped heard rung memory lines left core act ranges new unbuilt 
       running = let r = board.running in let old = kept.running in omega (arith, r, old, count, long);
       channels = board.channels ∙ kept.channels;
       consoles = board.consoles ∙ kept.consoles;
-      counts = counts_long held heard rung lines left act held.counts new s ∙ kept.counts;
+      counts = counts_long held heard rung memory loaded h.is.lent left act held.counts new s ∙ kept.counts;
       placed = λ part there.
           let within : part < length held.parts = omega (arith, there, long, count) in
-          subst (λ (d : Desc). ArePlaced memory d.regions) (sym (keeps.each part (omega (arith, within, long)) ∙ heard_desc held stepped heard memory lines core act ranges part h within))
-          (all_still_placed held.memory memory (part_at held.parts part).desc.regions h.is.step.sizes (kept.placed part within));
+          subst (λ (d : Desc). ArePlaced loaded d.regions) (sym (keeps.each part (omega (arith, within, long)) ∙ heard_desc held stepped heard memory lines core act ranges part h within))
+          (all_still_placed held.memory loaded (part_at held.parts part).desc.regions (sizes_kept held heard rung memory loaded h.is.lent left act held.counts new s ∙ h.is.step.sizes) (kept.placed part within));
       taken = board.taken;
       counted = turned_counted (network_of held) held.lines.who act held.parts rung held.lines left held.counts new kept.counted h.is.who few
-          (counts_step held stepped heard rung memory lines left core act ranges held.counts new h s more) has h.is.step.bytes (printed_so held heard rung lines left act held.counts new s);
+          (counts_step held stepped heard rung memory loaded lines left core act ranges held.counts new h s more) has h.is.step.bytes (printed_so held heard rung memory loaded h.is.lent left act held.counts new s);
     }

@@ -1,6 +1,7 @@
 pub mod Handles
 pub mod Seen
 pub mod Walks
+pub mod Cleared
 pub mod Tied
 pub mod Counted
 pub mod Far
@@ -13,10 +14,15 @@ pub mod Shown
 pub mod Told
 pub mod Unstored
 pub mod Sendings
+pub mod Emptied
 pub mod Acts
 pub mod Rung
 pub mod Rings
 pub mod Managers
+pub mod Commanded
+pub mod Logged
+pub mod Begun
+pub mod Anew
 pub mod Settled
 pub mod Kept
 pub mod Turned

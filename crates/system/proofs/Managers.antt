@@ -72,7 +72,7 @@ wire_named network part k managed joined here there e =
 
 -- ---- the handle that the wiring names manages
 
-right_at : (descs : List Desc) (first place at : ℕ) (managers : List (Option PortRef)) (ref : PortRef) → are_managers_right descs first managers ≡ true → slice_index_or managers place None ≡ Some ref → at ≡ first + place
+pub right_at : (descs : List Desc) (first place at : ℕ) (managers : List (Option PortRef)) (ref : PortRef) → are_managers_right descs first managers ≡ true → slice_index_or managers place None ≡ Some ref → at ≡ first + place
     → names_port (is_manager at) descs ref ≡ true
 right_at descs first place at [] ref h e is = absurd cc
 right_at descs first zero at (manager ∷ managers) ref h e is =
@@ -204,7 +204,7 @@ told_ends held managed part runs ref kept below here e b f = by_case b f
         (subst (λ (n : ℕ). ref.handle - 1 < length (wires_at (wires_of network) n)) same m.there) (subst (λ (n : ℕ). wire_at (wires_at (wires_of network) n) ref.handle ≡ Manage managed) same m.wire)
         (λ k there q. let at = eqb-true (1 + k) ref.handle (and_parts (part == ref.part) ((1 + k) == ref.handle) (named k there q)).1 in omega (arith, at))
 
-told_machine : (held : Held) (own : Part) (memory : List (List ℕ)) (managed part : ℕ) (runs : Bool) (ref : PortRef) → IsSystem held → managed < length held.lines.running → part < length held.parts
+pub told_machine : (held : Held) (own : Part) (memory : List (List ℕ)) (managed part : ℕ) (runs : Bool) (ref : PortRef) → IsSystem held → managed < length held.lines.running → part < length held.parts
     → manager_of (network_of held) managed ≡ Some ref
     → machine_by own (marked_lines held.lines managed runs) memory part ≡ given_if (ref.part == part) (λ (l : List End). told_on l ref.handle runs) (machine_by own held.lines memory part)
 told_machine held own memory managed part runs ref kept below here e =

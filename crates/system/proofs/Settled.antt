@@ -1,5 +1,5 @@
 -- A turn's machines, whatever its act.
-use Rattle.std.proofs.Common.{◌≡◌, ℕ, zero, suc, ◌+◌, ◌<◌, true, false, List, [], ◌∷◌, length, map, slice_index_or, slice_set, Option, Some, None, refl, sym, ap, subst, ◌∙◌, arith}
+use Rattle.std.proofs.Common.{◌≡◌, ℕ, zero, suc, ◌+◌, ◌<◌, Bool, true, false, List, [], ◌∷◌, length, map, slice_index_or, slice_set, Option, Some, None, refl, sym, ap, subst, ◌∙◌, arith}
 use Rattle.std.proofs.lemmas.Bool.{eq-eqb, ltb-true}
 use Rattle.byte_channel.specs.declared.side.Side.{Side}
 use Rattle.byte_channel.specs.declared.side.Side.TheVariants.{A, B}
@@ -12,27 +12,29 @@ use Rattle.machine_desc.specs.declared.wiring.End.TheVariants.{Part, Console}
 use Rattle.partition.specs.declared.kind.Kind.{Kind}
 use Rattle.partition.specs.declared.kind.Kind.TheVariants as kind
 use Rattle.partition.specs.Port.{kind_at, kinds_of as described_kinds}
-use Rattle.partition.specs.Act.{Act, act_of}
+use Rattle.partition.specs.Act.{act_of}
+use Rattle.partition.specs.Event.{Event, Start, Stop, Restart}
 use Rattle.partition.specs.Lending.{Part as Member, Did, HasHandle}
-use Rattle.network.specs.Network.{Network, desc_at, ref_to, is_end as is_same_end, far_of, receivers_of, manager_of}
-use Rattle.network.specs.World.{Counts, machine_at, delivered, after_log}
-use Rattle.network.specs.Effects.{ring_at, brought, sent_to, room_at, tell_manager}
+use Rattle.network.specs.Network.{Network, ref_to, is_end as is_same_end, far_of, receivers_of, manager_of, managed_by as managed_by_network}
+use Rattle.network.specs.World.{Counts, to_part, delivered, after_log}
+use Rattle.network.specs.Effects.{ring_at, brought, sent_to, room_at, returned_room, at_managed, tell_manager}
 use Rattle.machine_desc.specs.Joined.{is_end}
 use Rattle.system.specs.declared.wire.ChannelEnd.{ChannelEnd}
 use Rattle.system.specs.declared.wire.Wire.{Wire}
 use Rattle.system.specs.declared.wire.Wire.TheVariants.{Channel}
-use Rattle.system.specs.Board.{Lines, channel_at, kinds_of, wires_at, own_wire, sent_by, printed_by, Sends, Takes}
+use Rattle.system.specs.Board.{Lines, channel_at, kinds_of, wires_at, own_wire, emptied_lines, sent_by, printed_by, Sends, Takes}
 use Rattle.system.specs.Wired.{console_side}
 use Rattle.system.specs.System.{Held, part_at, network_of, machine_by, machines_of, IsSystem}
-use Rattle.system.specs.Turning.{Settles, Rings, marked_lines, printed_lines}
+use Rattle.system.specs.Turning.{Begins, Settles, Rings, managed_by, marked_lines, printed_lines, stopped_part}
 use Rattle.system.proofs.Tied.{joined_parts, no_link, end_at, side_at, console_once}
 use Rattle.system.proofs.Far.{IsOwn, led, link_end}
-use Rattle.system.proofs.Shown.{IsStep, after_shown, stepped_so}
+use Rattle.system.proofs.Shown.{after_shown}
 use Rattle.system.proofs.Told.{IsHeard}
 use Rattle.system.proofs.Acts.{left_by, none_machines, kinds_are, own_end, sent_lines, taken_lines, sent_to_part, sent_to_console, taken_from_part, taken_at_console}
 use Rattle.system.proofs.Rings.{rung_machines}
 use Rattle.system.proofs.Managers.{ended_machines}
-use Rattle.partition.proofs.Possible.{MayBe, step_may}
+use Rattle.system.proofs.Commanded.{IsCommand, is_command, settled_lines}
+use Rattle.system.proofs.Begun.{begun_machines, stopped_machines, self_restarted_machines}
 
 -- the machines are what the events of the act make of those that saw the step
 abbrev pub IsSettled : Held → List Member → List (List ℕ) → Lines → List Counts → Option ℕ → ℕ → Told → Type 0
@@ -159,43 +161,102 @@ sent_settled held stepped heard rung memory lines left core handle bytes act ran
 
 -- ---- all acts
 
-act_may : (held : Held) (stepped : List Member) (memory : List (List ℕ)) (lines : Lines) (core : ℕ) (act : Told) (ranges : List Wrote) → IsStep held stepped memory lines core act ranges → MayBe (act_of act)
-act_may held stepped memory lines core act ranges is =
-    subst (λ (a : Act). MayBe a) (stepped_so held stepped memory lines core act ranges is).act (step_may (desc_at (network_of held) held.lines.who) (machine_at (machines_of held) held.lines.who) core [])
-
 pub sort_of : (held : Held) (handle : ℕ) → IsSystem held → held.lines.who < length held.parts → kind_at (described_kinds (part_at held.parts held.lines.who).desc.ports) handle ≡ Some kind.Channel
     → kind_at (kinds_of (wires_at held.lines.wires held.lines.who)) handle ≡ Some kind.Channel
 sort_of held handle kept here sort = ap (λ (ks : List Kind). kind_at ks handle) (kinds_are held held.lines.who kept here) ∙ sort
 
-by_act : (held : Held) (stepped heard rung : List Member) (memory : List (List ℕ)) (lines left : Lines) (core : ℕ) (act : Told) (ranges : List Wrote) (counts new : List Counts) (unbuilt : Option ℕ)
-    → IsHeard held stepped heard memory lines core act ranges → length held.lines.running ≡ length held.parts → MayBe (act_of act) → Did Sends Takes act held.lines lines
+-- the partition that a handle manages, by the board as it was lent
+managed_lent : (held : Held) (lent : Lines) (handle : ℕ) → lent ≡ held.lines → (it : IsCommand held handle) → managed_by (own_wire lent handle) ≡ it.managed
+managed_lent held lent handle same it = ap (λ (ls : Lines). managed_by (own_wire ls handle)) same ∙ ap managed_by it.wire
+
+marked_lent : (held : Held) (lent : Lines) (handle : ℕ) (runs : Bool) → lent ≡ held.lines → (it : IsCommand held handle)
+    → marked_lines lent (managed_by (own_wire lent handle)) runs ≡ marked_lines held.lines it.managed runs
+marked_lent held lent handle runs same it =
+    ap (λ (ls : Lines). marked_lines ls (managed_by (own_wire lent handle)) runs) same ∙ ap (λ (n : ℕ). marked_lines held.lines n runs) (managed_lent held lent handle same it)
+
+-- a partition that its manager starts or restarts
+begun_settled : (held : Held) (stepped heard rung : List Member) (memory loaded : List (List ℕ)) (lent lines left : Lines) (core : ℕ) (act : Told) (ranges : List Wrote) (counts : List Counts) (unbuilt : Option ℕ) (handle : ℕ) (event : Event)
+    → IsHeard held stepped heard memory lines core act ranges → lent ≡ held.lines → lines ≡ marked_lines lent (managed_by (own_wire lent handle)) true
+    → kind_at (described_kinds (part_at held.parts held.lines.who).desc.ports) handle ≡ Some kind.Manage → Begins event (managed_by (own_wire lent handle)) heard rung memory loaded
+    → left ≡ emptied_lines (marked_lines lent (managed_by (own_wire lent handle)) true) (managed_by (own_wire lent handle))
+    → machines_of (left_by held rung loaded left counts unbuilt)
+    ≡ after_log (network_of held)
+    (map delivered (at_managed (managed_by_network (network_of held) held.lines.who handle) (λ (other : ℕ). to_part other event ∷ returned_room (network_of held) (machines_of held) other)))
+    (after_shown (network_of held) (machines_of held) held.lines.who core)
+begun_settled held stepped heard rung memory loaded lent lines left core act ranges counts unbuilt handle event h same l sort b r =
+    let it = is_command held handle h.is.kept h.is.who sort in
+    let managed = managed_lent held lent handle same it in
+    begun_machines held stepped heard rung memory loaded lines left core act ranges counts unbuilt handle event h it (l ∙ marked_lent held lent handle true same it)
+    (subst (λ (n : ℕ). Begins event n heard rung memory loaded) managed b)
+    (r ∙ (ap (λ (ls : Lines). emptied_lines ls (managed_by (own_wire lent handle))) (marked_lent held lent handle true same it) ∙ ap (emptied_lines (marked_lines held.lines it.managed true)) managed))
+    ∙ ap
+    (λ (found : Option ℕ).
+    after_log (network_of held) (map delivered (at_managed found (λ (other : ℕ). to_part other event ∷ returned_room (network_of held) (machines_of held) other))) (after_shown (network_of held) (machines_of held) held.lines.who core))
+    (sym it.names)
+
+stopped_settled : (held : Held) (stepped heard rung : List Member) (memory : List (List ℕ)) (lent lines left : Lines) (core : ℕ) (act : Told) (ranges : List Wrote) (counts : List Counts) (unbuilt : Option ℕ) (handle : ℕ)
+    → IsHeard held stepped heard memory lines core act ranges → lent ≡ held.lines → lines ≡ marked_lines lent (managed_by (own_wire lent handle)) false
+    → kind_at (described_kinds (part_at held.parts held.lines.who).desc.ports) handle ≡ Some kind.Manage
+    → rung ≡ slice_set heard (managed_by (own_wire lent handle)) (stopped_part (part_at heard (managed_by (own_wire lent handle)))) → left ≡ marked_lines lent (managed_by (own_wire lent handle)) false
+    → machines_of (left_by held rung memory left counts unbuilt)
+    ≡ after_log (network_of held) (map delivered (at_managed (managed_by_network (network_of held) held.lines.who handle) (λ (other : ℕ). to_part other Stop ∷ [])))
+    (after_shown (network_of held) (machines_of held) held.lines.who core)
+stopped_settled held stepped heard rung memory lent lines left core act ranges counts unbuilt handle h same l sort b r =
+    let it = is_command held handle h.is.kept h.is.who sort in
+    let managed = managed_lent held lent handle same it in
+    stopped_machines held stepped heard rung memory lines left core act ranges counts unbuilt handle h it (l ∙ marked_lent held lent handle false same it)
+    (b ∙ ap (λ (n : ℕ). slice_set heard n (stopped_part (part_at heard n))) managed) (r ∙ marked_lent held lent handle false same it)
+    ∙ ap (λ (found : Option ℕ). after_log (network_of held) (map delivered (at_managed found (λ (other : ℕ). to_part other Stop ∷ []))) (after_shown (network_of held) (machines_of held) held.lines.who core))
+    (sym it.names)
+
+by_act : (held : Held) (stepped heard rung : List Member) (memory loaded : List (List ℕ)) (lent lines left : Lines) (core : ℕ) (act : Told) (ranges : List Wrote) (counts new : List Counts) (unbuilt : Option ℕ)
+    → IsHeard held stepped heard memory lines core act ranges → length held.lines.running ≡ length held.parts → Did Sends Takes act held.lines lent → lines ≡ settled_lines act lent
     → HasHandle (described_kinds (part_at held.parts held.lines.who).desc.ports) act
-    → Settles held.wiring held.lines.who act heard rung lines left counts new → IsSettled held rung memory left new unbuilt core act
+    → Settles held.wiring held.lines.who act heard rung memory loaded lent left counts new → IsSettled held rung loaded left new unbuilt core act
 unfolding brought
-by_act held stepped heard rung memory lines left core told.None ranges counts new unbuilt h long may did handle s = quiet_settled held stepped heard rung memory lines left core told.None ranges new unbuilt h did s.0 s.1
-by_act held stepped heard rung memory lines left core (told.Sent on bytes) ranges counts new unbuilt h long may did handle s =
-    sent_settled held stepped heard rung memory lines left core on bytes.items (told.Sent on bytes) ranges new unbuilt h (sort_of held on h.is.kept h.is.who handle) did s.0 s.1
-by_act held stepped heard rung memory lines left core (told.Took on count) ranges counts new unbuilt h long may did handle s =
-    taken_settled held stepped heard rung memory lines left core on count (told.Took on count) ranges new unbuilt h (sort_of held on h.is.kept h.is.who handle) did s.0 s.1
-by_act held stepped heard rung memory lines left core (told.Rang on) ranges counts new unbuilt h long may did handle s =
-    rung_settled held stepped heard rung memory lines left core on (told.Rang on) ranges new unbuilt h did s.0 s.1
-by_act held stepped heard rung memory lines left core (told.Start on entry load) ranges counts new unbuilt h long may did handle s = absurd may
-by_act held stepped heard rung memory lines left core (told.Stop on) ranges counts new unbuilt h long may did handle s = absurd may
-by_act held stepped heard rung memory lines left core (told.Restart on) ranges counts new unbuilt h long may did handle s = absurd may
-by_act held stepped heard rung memory lines left core (told.CopyTo on total) ranges counts new unbuilt h long may did handle s =
-    quiet_settled held stepped heard rung memory lines left core (told.CopyTo on total) ranges new unbuilt h did s.0 s.1
-by_act held stepped heard rung memory lines left core (told.CopyFrom on total) ranges counts new unbuilt h long may did handle s =
-    quiet_settled held stepped heard rung memory lines left core (told.CopyFrom on total) ranges new unbuilt h did s.0 s.1
-by_act held stepped heard rung memory lines left core told.SelfStop ranges counts new unbuilt h long may did handle s =
-    ended_settled held stepped heard rung memory lines left core told.SelfStop ranges new unbuilt h long did s.0 s.1
-by_act held stepped heard rung memory lines left core told.SelfRestart ranges counts new unbuilt h long may did handle s = absurd may
-by_act held stepped heard rung memory lines left core told.Faulted ranges counts new unbuilt h long may did handle s =
-    ended_settled held stepped heard rung memory lines left core told.Faulted ranges new unbuilt h long did s.0 s.1
-by_act held stepped heard rung memory lines left core told.NotBuilt ranges counts new unbuilt h long may did handle s = quiet_settled held stepped heard rung memory lines left core told.NotBuilt ranges new unbuilt h did s.0 s.1
+by_act held stepped heard rung memory loaded lent lines left core (told.Sent on bytes) ranges counts new unbuilt h long did l handle s =
+    ap (λ (m : List (List ℕ)). machines_of (left_by held rung m left new unbuilt)) s.3
+    ∙ sent_settled held stepped heard rung memory lines left core on bytes.items (told.Sent on bytes) ranges new unbuilt h (sort_of held on h.is.kept h.is.who handle) (l ∙ did) s.0
+    (s.1 ∙ ap (printed_lines (far_of (network_of held) held.lines.who on) on) (sym l))
+by_act held stepped heard rung memory loaded lent lines left core (told.Took on count) ranges counts new unbuilt h long did l handle s =
+    ap (λ (m : List (List ℕ)). machines_of (left_by held rung m left new unbuilt)) s.3
+    ∙ taken_settled held stepped heard rung memory lines left core on count (told.Took on count) ranges new unbuilt h (sort_of held on h.is.kept h.is.who handle) (l ∙ did) s.0 (s.1 ∙ sym l)
+by_act held stepped heard rung memory loaded lent lines left core (told.Rang on) ranges counts new unbuilt h long did l handle s =
+    ap (λ (m : List (List ℕ)). machines_of (left_by held rung m left new unbuilt)) s.3
+    ∙ rung_settled held stepped heard rung memory lines left core on (told.Rang on) ranges new unbuilt h (l ∙ did) s.0 (s.1 ∙ sym l)
+by_act held stepped heard rung memory loaded lent lines left core (told.Start on entry load) ranges counts new unbuilt h long did l handle s =
+    begun_settled held stepped heard rung memory loaded lent lines left core (told.Start on entry load) ranges new unbuilt on (Start entry load) h did l handle s.0 s.1
+by_act held stepped heard rung memory loaded lent lines left core (told.Restart on) ranges counts new unbuilt h long did l handle s =
+    begun_settled held stepped heard rung memory loaded lent lines left core (told.Restart on) ranges new unbuilt on Restart h did l handle s.0 s.1
+by_act held stepped heard rung memory loaded lent lines left core (told.Stop on) ranges counts new unbuilt h long did l handle s =
+    ap (λ (m : List (List ℕ)). machines_of (left_by held rung m left new unbuilt)) s.3
+    ∙ stopped_settled held stepped heard rung memory lent lines left core (told.Stop on) ranges new unbuilt on h did l handle s.0 s.1
+by_act held stepped heard rung memory loaded lent lines left core told.SelfRestart ranges counts new unbuilt h long did l handle s =
+    ap (λ (m : List (List ℕ)). machines_of (left_by held rung m left new unbuilt)) s.3
+    ∙ (ap (λ (ps : List Member). machines_of (left_by held ps memory left new unbuilt)) s.0
+    ∙ (
+    ap (λ (ls : Lines). machines_of (left_by held heard memory ls new unbuilt)) (s.1 ∙ ap (emptied_lines lent) (sym (ap (λ (ls : Lines). ls.who) did)) ∙ sym l)
+    ∙ self_restarted_machines held stepped heard memory lines core told.SelfRestart ranges new unbuilt h (l ∙ ap (λ (ls : Lines). emptied_lines ls ls.who) did)))
+by_act held stepped heard rung memory loaded lent lines left core told.SelfStop ranges counts new unbuilt h long did l handle s =
+    ap (λ (m : List (List ℕ)). machines_of (left_by held rung m left new unbuilt)) s.3
+    ∙ ended_settled held stepped heard rung memory lines left core told.SelfStop ranges new unbuilt h long (l ∙ did) s.0 (s.1 ∙ ap (λ (ls : Lines). marked_lines ls held.lines.who false) (sym l))
+by_act held stepped heard rung memory loaded lent lines left core told.Faulted ranges counts new unbuilt h long did l handle s =
+    ap (λ (m : List (List ℕ)). machines_of (left_by held rung m left new unbuilt)) s.3
+    ∙ ended_settled held stepped heard rung memory lines left core told.Faulted ranges new unbuilt h long (l ∙ did) s.0 (s.1 ∙ ap (λ (ls : Lines). marked_lines ls held.lines.who false) (sym l))
+by_act held stepped heard rung memory loaded lent lines left core told.None ranges counts new unbuilt h long did l handle s =
+    ap (λ (m : List (List ℕ)). machines_of (left_by held rung m left new unbuilt)) s.3 ∙ quiet_settled held stepped heard rung memory lines left core told.None ranges new unbuilt h (l ∙ did) s.0 (s.1 ∙ sym l)
+by_act held stepped heard rung memory loaded lent lines left core (told.CopyTo on total) ranges counts new unbuilt h long did l handle s =
+    ap (λ (m : List (List ℕ)). machines_of (left_by held rung m left new unbuilt)) s.3
+    ∙ quiet_settled held stepped heard rung memory lines left core (told.CopyTo on total) ranges new unbuilt h (l ∙ did) s.0 (s.1 ∙ sym l)
+by_act held stepped heard rung memory loaded lent lines left core (told.CopyFrom on total) ranges counts new unbuilt h long did l handle s =
+    ap (λ (m : List (List ℕ)). machines_of (left_by held rung m left new unbuilt)) s.3
+    ∙ quiet_settled held stepped heard rung memory lines left core (told.CopyFrom on total) ranges new unbuilt h (l ∙ did) s.0 (s.1 ∙ sym l)
+by_act held stepped heard rung memory loaded lent lines left core told.NotBuilt ranges counts new unbuilt h long did l handle s =
+    ap (λ (m : List (List ℕ)). machines_of (left_by held rung m left new unbuilt)) s.3 ∙ quiet_settled held stepped heard rung memory lines left core told.NotBuilt ranges new unbuilt h (l ∙ did) s.0 (s.1 ∙ sym l)
 
 -- the machines after a step and all that it brings
-pub settled : (held : Held) (stepped heard rung : List Member) (memory : List (List ℕ)) (lines left : Lines) (core : ℕ) (act : Told) (ranges : List Wrote) (counts new : List Counts) (unbuilt : Option ℕ)
-    → IsHeard held stepped heard memory lines core act ranges → length held.lines.running ≡ length held.parts
-    → Settles held.wiring held.lines.who act heard rung lines left counts new → IsSettled held rung memory left new unbuilt core act
-settled held stepped heard rung memory lines left core act ranges counts new unbuilt h long s =
-    by_act held stepped heard rung memory lines left core act ranges counts new unbuilt h long (act_may held stepped memory lines core act ranges h.is) h.is.step.did h.is.step.handle s
+pub settled : (held : Held) (stepped heard rung : List Member) (memory loaded : List (List ℕ)) (lines left : Lines) (core : ℕ) (act : Told) (ranges : List Wrote) (counts new : List Counts) (unbuilt : Option ℕ)
+    → (h : IsHeard held stepped heard memory lines core act ranges) → length held.lines.running ≡ length held.parts → lines ≡ settled_lines act h.is.lent
+    → Settles held.wiring held.lines.who act heard rung memory loaded h.is.lent left counts new → IsSettled held rung loaded left new unbuilt core act
+settled held stepped heard rung memory loaded lines left core act ranges counts new unbuilt h long l s =
+    by_act held stepped heard rung memory loaded h.is.lent lines left core act ranges counts new unbuilt h long h.is.step.did l h.is.step.handle s

@@ -13,6 +13,7 @@ use Rattle.machine_desc.specs.declared.desc.Region.{Region}
 use Rattle.machine_desc.specs.Joined.{names_extent}
 use Rattle.fresh_load.specs.Placed.{extents_of, is_private_extent}
 use Rattle.partition.specs.Port.{End}
+use Rattle.partition.specs.Act.{act_of, settled}
 use Rattle.partition.specs.Machine.{Machine, fresh}
 use Rattle.partition.specs.Step.{Stepped, step}
 use Rattle.partition.specs.Reached.{Steps}
@@ -23,7 +24,7 @@ use Rattle.network.specs.World.{Entry, entry_for, machine_at, after_entry, after
 use Rattle.network.specs.Effects.{shown_from, shown}
 use Rattle.network.specs.Turn.{feed_for, done_by}
 use Rattle.network.proofs.Logs.{follows_changes}
-use Rattle.system.specs.Board.{Lines, ends_of, wires_at}
+use Rattle.system.specs.Board.{Lines, own_ends, ends_of, wires_at}
 use Rattle.system.specs.System.{Held, no_part, part_at, descs_of, network_of, machine_by, machine_in, machines_of, IsSystem}
 use Rattle.system.specs.Turning.{AfterStep, kept_part}
 use Rattle.system.proofs.Opened.{machine_there, machines_length}
@@ -149,11 +150,14 @@ after_shown network machines part core =
     after_log network (shown network part (done_by network machines part core))
     (after_entry network (entry_for part (Moves (Steps core (feed_for network machines part core)))) machines)
 
--- the system before a step, and its parts afterwards
+-- the system before a step, its parts afterwards, and the board that shows the stepping one its ends as the act leaves them
 pub record IsStep (held : Held) (parts : List Part) (memory : List (List ℕ)) (lines : Lines) (core : ℕ) (act : Told) (ranges : List Wrote) : Type 0 where
   pub kept : IsSystem held
   pub who : held.lines.who < length held.parts
-  pub step : AfterStep held.parts parts held.memory memory held.lines lines core act ranges
+  -- the board as the step gave it back
+  pub lent : Lines
+  pub step : AfterStep held.parts parts held.memory memory held.lines lent core act ranges
+  pub shows : machine_of (part_at parts held.lines.who) (settled (act_of act) (own_ends lent)) memory ≡ machine_by (part_at parts held.lines.who) lines memory held.lines.who
 
 done_is : (held : Held) (part core : ℕ) → part < length held.parts → done_by (network_of held) (machines_of held) part core ≡ step (part_at held.parts part).desc (machine_in held part) core []
 done_is held part core there =
@@ -164,7 +168,12 @@ pub stepped_so : (held : Held) (parts : List Part) (memory : List (List ℕ)) (l
     → IsStepped (extents_of (part_at held.parts held.lines.who).desc.regions) (done_by (network_of held) (machines_of held) held.lines.who core) (machine_by (part_at parts held.lines.who) lines memory held.lines.who) act ranges
 stepped_so held parts memory lines core act ranges is =
     let who : ℕ = held.lines.who in
-    subst (λ (done : Stepped). IsStepped (extents_of (part_at held.parts who).desc.regions) done (machine_by (part_at parts who) lines memory who) act ranges) (sym (done_is held who core is.who)) (is.step.stepped [])
+    subst (λ (done : Stepped). IsStepped (extents_of (part_at held.parts who).desc.regions) done (machine_by (part_at parts who) lines memory who) act ranges) (sym (done_is held who core is.who))
+    (
+    subst
+    (λ (left : Machine). IsStepped (extents_of (part_at held.parts who).desc.regions) (step (part_at held.parts who).desc (machine_in held who) core []) left act ranges) is.shows
+    (is.step.stepped [])
+    )
 
 shown_is : (held : Held) (parts : List Part) (memory : List (List ℕ)) (lines : Lines) (core : ℕ) (act : Told) (ranges : List Wrote) → IsStep held parts memory lines core act ranges
     → shown (network_of held) held.lines.who (done_by (network_of held) (machines_of held) held.lines.who core)

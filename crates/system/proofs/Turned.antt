@@ -1,8 +1,8 @@
 -- A step of the system is the step of its network.
-use Rattle.std.proofs.Common.{◌≡◌, ℕ, ◌+◌, ◌<◌, ◌≤◌, ◌==◌, Bool, true, false, ◌&&◌, if◌then◌else◌, List, [], ◌∷◌, append-nil, length, map, slice_set, Option, Some, None, refl, sym, ap, subst, ◌∙◌, arith}
+use Rattle.std.proofs.Common.{◌≡◌, ℕ, ◌+◌, ◌<◌, ◌≤◌, ◌==◌, Bool, true, false, ◌&&◌, if◌then◌else◌, List, [], ◌∷◌, append-nil, length, length-set, map, slice_set, Option, Some, None, refl, sym, ap, subst, ◌∙◌, arith}
 use Rattle.std.specs.List.{list_all}
 use Rattle.std.proofs.lemmas.Bool.{and_parts, eqb-true, eqb-false, ltb-true, ltb-false}
-use Rattle.std.proofs.lemmas.List.{length-map, set-get_or, get_or_past}
+use Rattle.std.proofs.lemmas.List.{length-map, set-get_or, get_or_past, get_or-set_other}
 use Rattle.std.proofs.lemmas.List.Concat.{flat_map-cons}
 use Rattle.std.specs.Prelude.{nat_lt}
 use Rattle.core_step.specs.declared.answer.Wrote.{Wrote}
@@ -17,8 +17,11 @@ use Rattle.machine_desc.specs.Joined.{is_end, are_ends_apart, is_link_joined, ar
 use Rattle.partition.specs.Port.{kinds_of as described_kinds}
 use Rattle.trace_text.specs.Acts.{act_text}
 use Rattle.partition.specs.Act.{Act, act_of, steps_after}
+use Rattle.fresh_load.specs.Placed.{ArePlaced}
+use Rattle.fresh_load.proofs.Places.{all_still_placed}
 use Rattle.partition.specs.Machine.{Machine, fresh, most_steps}
-use Rattle.partition.specs.Step.{Stepped, step}
+use Rattle.partition.specs.Step.{Stepped}
+use Rattle.partition.proofs.Acting.{steps_so}
 use Rattle.partition.specs.Reached.{Steps}
 use Rattle.partition.specs.Lending.{Part as Member, Did, HasHandle}
 use Rattle.network.specs.Network.{Network, no_desc, desc_at, ref_to, is_end as is_same_end, far_end}
@@ -31,14 +34,15 @@ use Rattle.network.proofs.Logs.{after_both}
 use Rattle.system.specs.Board.{Lines, kinds_of, wires_at, own_kinds, Sends, Takes}
 use Rattle.partition.specs.declared.kind.Kind.{Kind}
 use Rattle.system.specs.declared.wire.Wire.{Wire}
-use Rattle.system.specs.System.{Held, Snapshot, part_at, descs_of, network_of, machines_of, snapshot_of, IsSystem}
-use Rattle.system.specs.Turning.{Follows, HasConsole, Turns}
-use Rattle.system.proofs.Tied.{joined_parts}
-use Rattle.system.proofs.Counted.{CountsStep}
+use Rattle.system.specs.System.{Held, Snapshot, no_part, part_at, descs_of, network_of, machines_of, snapshot_of, IsSystem}
+use Rattle.system.specs.Turning.{AfterStep, Asks, Follows, HasConsole, Hears, Turns, kept_part}
+use Rattle.system.proofs.Tied.{joined_parts, all_length}
+use Rattle.system.proofs.Counted.{CountsStep, small_counts}
 use Rattle.system.proofs.Opened.{machine_there, machines_length, fresh_steps}
 use Rattle.system.proofs.Shown.{IsStep, after_shown, stepped_so}
 use Rattle.system.proofs.Told.{IsHeard}
 use Rattle.system.proofs.Acts.{left_by, kinds_are}
+use Rattle.system.proofs.Commanded.{settled_lines, lent_machine}
 use Rattle.system.proofs.Settled.{settled}
 use Rattle.system.proofs.Kept.{descs_stay, counts_step, printed_so, turn_kept}
 
@@ -130,34 +134,48 @@ rises old new step part = by_place (nat_lt part (length old.parts)) refl (part =
         let b : (part_at old.parts part).inner.steps ≡ (part_at old.parts old.lines.who).inner.steps = ap (λ (k : ℕ). (part_at old.parts k).inner.steps) at in
         omega (arith, o, n, own, a, b)
 
-pub turns_built : (held : Held) (stepped rung : List Member) (memory : List (List ℕ)) (lines left : Lines) (core : ℕ) (act : Told) (ranges : List Wrote) (new : List Counts) (unbuilt : Option ℕ)
-    → IsStep held stepped memory lines core act ranges → IsDone act → length held.lines.running ≡ length held.parts → unbuilt ≡ None → lines.who ≡ held.lines.who
-    → (part_at held.parts held.lines.who).inner.steps < most_steps → Follows held.wiring held.lines.who act ranges stepped rung lines left held.counts new
-    → Turns held (left_by held rung memory left new unbuilt) core act
-turns_built held stepped rung memory lines left core act ranges new unbuilt is d long none who few f =
+-- the step, with the board that shows its partition what the act leaves
+pub is_step : (held : Held) (stepped : List Member) (memory : List (List ℕ)) (lent : Lines) (core : ℕ) (act : Told) (ranges : List Wrote) → IsSystem held → held.lines.who < length held.parts
+    → AfterStep held.parts stepped held.memory memory held.lines lent core act ranges → IsStep held stepped memory (settled_lines act lent) core act ranges
+is_step held stepped memory lent core act ranges kept here step = record {
+  kept = kept;
+  who = here;
+  lent = lent;
+  step = step;
+  shows = lent_machine held lent (part_at stepped held.lines.who) memory act kept here step.did step.handle;
+}
+
+pub turns_built : (held : Held) (stepped rung : List Member) (memory loaded : List (List ℕ)) (lent left : Lines) (core : ℕ) (act : Told) (ranges : List Wrote) (new : List Counts) (unbuilt : Option ℕ)
+    → IsSystem held → held.lines.who < length held.parts → AfterStep held.parts stepped held.memory memory held.lines lent core act ranges → IsDone act → unbuilt ≡ None
+    → (part_at held.parts held.lines.who).inner.steps < most_steps → Follows held.wiring held.lines.who act ranges stepped rung memory loaded lent left held.counts new
+    → Turns held (left_by held rung loaded left new unbuilt) core act
+unfolding is_step
+turns_built held stepped rung memory loaded lent left core act ranges new unbuilt kept here step d none few f =
+    let lines : Lines = settled_lines act lent in
+    let is : IsStep held stepped memory lines core act ranges = is_step held stepped memory lent core act ranges kept here step in
     let h : IsHeard held stepped f.heard memory lines core act ranges = record { is = is; hears = f.hears } in
     let network : Network = network_of held in
     let machines : List Machine = machines_of held in
     let done : Stepped = done_by network machines held.lines.who core in
     let so = stepped_so held stepped memory lines core act ranges is in
     let passage = passes held stepped memory lines core act ranges is d in
-    let descs = descs_stay held stepped f.heard rung memory lines left core act ranges held.counts new h f.settles in
-    let all : machines_of (left_by held rung memory left new unbuilt) ≡ after_log network (map delivered (brought network machines held.lines.who done.act)) (after_shown network machines held.lines.who core) =
-    settled held stepped f.heard rung memory lines left core act ranges held.counts new unbuilt h long f.settles
+    let descs = descs_stay held stepped f.heard rung memory loaded lines left core act ranges held.counts new h f.settles in
+    let all : machines_of (left_by held rung loaded left new unbuilt) ≡ after_log network (map delivered (brought network machines held.lines.who done.act)) (after_shown network machines held.lines.who core) =
+    settled held stepped f.heard rung memory loaded lines left core act ranges held.counts new unbuilt h kept.running refl f.settles
     ∙ ap (λ (a : Act). after_log network (map delivered (brought network machines held.lines.who a)) (after_shown network machines held.lines.who core)) (sym so.act) in
     let logged : after_log network (log_of network machines held.lines.who core done) machines ≡ after_log network (map delivered (brought network machines held.lines.who done.act)) (after_shown network machines held.lines.who core) =
     after_both network (shown network held.lines.who done) (map delivered (brought network machines held.lines.who done.act)) (after_entry network (entry_for held.lines.who (Moves (Steps core []))) machines) in
     let counts : new ≡ printed_by network held.lines.who done.act held.counts =
-    printed_so held f.heard rung lines left act held.counts new f.settles ∙ ap (λ (a : Act). printed_by network held.lines.who a held.counts) (sym so.act) in
+    printed_so held f.heard rung memory loaded lent left act held.counts new f.settles ∙ ap (λ (a : Act). printed_by network held.lines.who a held.counts) (sym so.act) in
     record {
-      system = turn_kept held stepped f.heard rung memory lines left core act ranges new unbuilt h f.settles (done_counts act d) few (λ handle. has_console held handle is.kept);
+      system = turn_kept held stepped f.heard rung memory loaded lines left core act ranges new unbuilt h f.settles (done_counts act d) few (λ handle. has_console held handle kept);
       network = ap (λ (l : List Desc). let it : Network = record { descs = l; wiring = held.wiring } in it) descs;
       world = ap (λ (ms : List Machine). let it : World = record { machines = ms; consoles = new } in it) (all ∙ sym logged)
           ∙ (ap (λ (cs : List Counts). let it : World = record { machines = after_log network (log_of network machines held.lines.who core done) machines; consoles = cs } in it) counts
           ∙ ap (λ (p : Passage). p.after) (sym passage));
       unbuilt = none ∙ ap (λ (p : Passage). p.unbuilt) (sym passage);
       did = so.act;
-      counted = rises held (left_by held rung memory left new unbuilt) (counts_step held stepped f.heard rung memory lines left core act ranges held.counts new h f.settles (done_counts act d));
+      counted = rises held (left_by held rung loaded left new unbuilt) (counts_step held stepped f.heard rung memory loaded lines left core act ranges held.counts new h f.settles (done_counts act d));
     }
 
 still : (old : Held) (unbuilt : Option ℕ) → IsSystem old → IsSystem (record old { unbuilt = unbuilt })
@@ -168,25 +186,26 @@ unfolding machines_of
 machines_still old unbuilt = refl
 
 -- a step that isn't built leaves all as it was
-pub turns_unbuilt : (held : Held) (stepped : List Member) (memory : List (List ℕ)) (lines : Lines) (core : ℕ) (ranges : List Wrote) (steps : ℕ) → IsStep held stepped memory lines core told.NotBuilt ranges
-    → steps ≡ (part_at stepped held.lines.who).inner.steps → Turns held (left_by held stepped memory lines held.counts (Some (steps + 1))) core told.NotBuilt
+pub turns_unbuilt : (held : Held) (stepped : List Member) (memory : List (List ℕ)) (lent : Lines) (core : ℕ) (ranges : List Wrote) (steps : ℕ) → IsSystem held → held.lines.who < length held.parts
+    → AfterStep held.parts stepped held.memory memory held.lines lent core told.NotBuilt ranges → steps ≡ (part_at stepped held.lines.who).inner.steps
+    → Turns held (left_by held stepped memory lent held.counts (Some (steps + 1))) core told.NotBuilt
 unfolding steps_in
-turns_unbuilt held stepped memory lines core ranges steps is e =
+turns_unbuilt held stepped memory lent core ranges steps kept here step e =
     let who : ℕ = held.lines.who in
     let network : Network = network_of held in
-    let so = stepped_so held stepped memory lines core told.NotBuilt ranges is in
+    let so = stepped_so held stepped memory lent core told.NotBuilt ranges (is_step held stepped memory lent core told.NotBuilt ranges kept here step) in
     let done : Stepped = done_by network (machines_of held) who core in
-    let parts : stepped ≡ held.parts = is.step.parts ∙ (ap (slice_set held.parts who) is.step.kept ∙ set-get_or held.parts who _) in
-    let same : left_by held stepped memory lines held.counts (Some (steps + 1)) ≡ record held { unbuilt = Some (steps + 1) } =
-    ap (λ (ps : List Member). left_by held ps memory lines held.counts (Some (steps + 1))) parts
-    ∙ (ap (λ (m : List (List ℕ)). left_by held held.parts m lines held.counts (Some (steps + 1))) is.step.memory
-    ∙ ap (λ (ls : Lines). left_by held held.parts held.memory ls held.counts (Some (steps + 1))) is.step.did) in
+    let parts : stepped ≡ held.parts = step.parts ∙ (ap (slice_set held.parts who) step.kept ∙ set-get_or held.parts who _) in
+    let same : left_by held stepped memory lent held.counts (Some (steps + 1)) ≡ record held { unbuilt = Some (steps + 1) } =
+    ap (λ (ps : List Member). left_by held ps memory lent held.counts (Some (steps + 1))) parts
+    ∙ (ap (λ (m : List (List ℕ)). left_by held held.parts m lent held.counts (Some (steps + 1))) step.memory
+    ∙ ap (λ (ls : Lines). left_by held held.parts held.memory ls held.counts (Some (steps + 1))) step.did) in
     let passage : steps_in network who core (snapshot_of held).world ≡ ended who (snapshot_of held).world = ap (after_act network who core (snapshot_of held).world done) so.act in
     let count : steps ≡ (machine_at (machines_of held) who).inner.steps =
-    e ∙ (ap (λ (p : Member). p.inner.steps) is.step.kept ∙ ap (λ (m : Machine). m.inner.steps) (sym (machine_there held who (fresh no_desc) is.who))) in
+    e ∙ (ap (λ (p : Member). p.inner.steps) step.kept ∙ ap (λ (m : Machine). m.inner.steps) (sym (machine_there held who (fresh no_desc) here))) in
     subst (λ (new : Held). Turns held new core told.NotBuilt) (sym same)
     (record {
-      system = still held (Some (steps + 1)) is.kept;
+      system = still held (Some (steps + 1)) kept;
       network = refl;
       world = machines_still held (Some (steps + 1)) ∙ ap (λ (p : Passage). p.after) (sym passage);
       unbuilt = ap (λ (n : ℕ). Some (n + 1)) count ∙ ap (λ (p : Passage). p.unbuilt) (sym passage);
@@ -215,23 +234,54 @@ did_keeps _ old new did = lent_by old new old did (record { who = refl; running 
 pub lent_kinds : (held : Held) → IsSystem held → held.lines.who < length held.parts → own_kinds held.lines ≡ described_kinds (part_at held.parts held.lines.who).desc.ports
 lent_kinds held kept here = kinds_are held held.lines.who kept here
 
-pub record Asks (held : Held) (lines : Lines) (act : Told) : Type 0 where
-  pub who : lines.who < length lines.running
-  pub handle : HasHandle (own_kinds lines) act
-  pub consoles : (handle : ℕ) → HasConsole (length held.counts) (far_end held.wiring.links (Part (ref_to lines.who handle)))
-
-pub asks : (held : Held) (lines : Lines) (act : Told) → IsSystem held → held.lines.who < length held.parts → Did Sends Takes act held.lines lines
-    → HasHandle (described_kinds (part_at held.parts held.lines.who).desc.ports) act → Asks held lines act
-asks held lines act kept here did handle =
-    let k = did_keeps act held.lines lines did in
-    let running : length lines.running ≡ length held.parts = ap length k.running ∙ kept.running in
+-- what a step leaves can be settled
+pub asks : (held : Held) (stepped : List Member) (memory : List (List ℕ)) (lent : Lines) (core : ℕ) (act : Told) (ranges : List Wrote) → IsSystem held → held.lines.who < length held.parts
+    → AfterStep held.parts stepped held.memory memory held.lines lent core act ranges → Asks held.wiring act stepped memory lent held.counts
+asks held stepped memory lent core act ranges kept here step =
+    let k = did_keeps act held.lines lent step.did in
     let who = k.who in
-    let kinds : own_kinds lines ≡ own_kinds held.lines = ap (λ (ws : List (List Wire)). kinds_of (wires_at ws lines.who)) k.wires ∙ ap (λ (n : ℕ). kinds_of (wires_at held.lines.wires n)) k.who in
+    let long : length stepped ≡ length held.parts = ap length step.parts ∙ length-set held.parts held.lines.who (part_at stepped held.lines.who) in
+    let descs : length (descs_of held.parts) ≡ length held.parts = length-map held.parts (λ (p : Member). p.desc) in
+    let wires : length lent.wires ≡ length held.parts = ap length k.wires ∙ (ap length kept.wires ∙ (all_length held.wiring 0 (descs_of held.parts) ∙ descs)) in
+    let kinds : own_kinds lent ≡ own_kinds held.lines = ap (λ (ws : List (List Wire)). kinds_of (wires_at ws lent.who)) k.wires ∙ ap (λ (n : ℕ). kinds_of (wires_at held.lines.wires n)) k.who in
     record {
-      who = omega (arith, running, who, here);
-      handle = subst (λ (ks : List Kind). HasHandle ks act) (sym (kinds ∙ lent_kinds held kept here)) handle;
+      who = omega (arith, wires, who, here);
+      count = long ∙ sym wires;
+      placed = λ part there.
+          let within : part < length held.parts = omega (arith, there, long) in
+          subst (λ (d : Desc). ArePlaced memory d.regions) (sym (stepped_desc part within (part == held.lines.who) refl))
+          (all_still_placed held.memory memory (part_at held.parts part).desc.regions step.sizes (kept.placed part within));
+      handle = subst (λ (ks : List Kind). HasHandle ks act) (sym (kinds ∙ lent_kinds held kept here)) step.handle;
+      bytes = step.bytes;
+      entry = step.entry;
       consoles = λ h. subst (λ (n : ℕ). HasConsole (length held.counts) (far_end held.wiring.links (Part (ref_to n h)))) (sym k.who) (has_console held h kept);
+      few = (small_counts held kept).printed;
     }
+  where
+    stepped_desc : (part : ℕ) → part < length held.parts → (b : Bool) → (part == held.lines.who) ≡ b → (part_at stepped part).desc ≡ (part_at held.parts part).desc
+    stepped_desc part there false e = ap (λ (ps : List Member). (part_at ps part).desc) step.parts ∙ ap (λ (p : Member). p.desc) (get_or-set_other held.parts held.lines.who part (part_at stepped held.lines.who) no_part (eqb-false part held.lines.who e))
+    stepped_desc part there true e = subst (λ (n : ℕ). (part_at stepped n).desc ≡ (part_at held.parts n).desc) (sym (eqb-true part held.lines.who e)) step.desc
+
+-- and so it is once others heard of its stores
+pub heard_asks : (wiring : Wiring) (act : Told) (stepped heard : List Member) (memory : List (List ℕ)) (lines : Lines) (counts : List Counts) (ranges : List Wrote) → Asks wiring act stepped memory lines counts
+    → Hears lines.who ranges stepped heard → Asks wiring act heard memory lines counts
+heard_asks wiring act stepped heard memory lines counts ranges a h = record {
+  who = a.who;
+  count = h.count ∙ a.count;
+  placed = λ part there.
+      let long = h.count in
+      let within : part < length stepped = omega (arith, there, long) in
+      subst (λ (d : Desc). ArePlaced memory d.regions) (sym (ap (λ (p : Member). p.desc) (h.each part within) ∙ same_desc part (part == lines.who))) (a.placed part within);
+  handle = a.handle;
+  bytes = a.bytes;
+  entry = a.entry;
+  consoles = a.consoles;
+  few = a.few;
+}
+  where
+    same_desc : (part : ℕ) → (b : Bool) → (if b then part_at stepped part else kept_part ranges (part_at stepped part)).desc ≡ (part_at stepped part).desc
+    same_desc part true = refl
+    same_desc part false = refl
 
 pub is_done : (act : Told) → (act ≡ told.NotBuilt → ⊥) → IsDone act
 is_done told.NotBuilt h = h refl
@@ -268,10 +318,6 @@ one_line network part number act =
     flat_map-cons (λ (line : Line). traced_line (desc_at network line.part).name line.traced) (line_of part (record { step = number; act = act })) []
     ∙ append-nil (act_line (desc_at network part).name number act)
 
-own_steps : (desc : Desc) (machine : Machine) (core : ℕ) (feed : List ℕ) → (step desc machine core feed).after.inner.steps ≡ steps_after (step desc machine core feed).act machine.inner.steps
-unfolding step
-own_steps desc machine core feed = refl
-
 -- what the definition writes of it
 abbrev DoneLines : Network → World → ℕ → ℕ → Act → List ℕ
 DoneLines network world part core act = act_lines network (after_act network part core world (done_by network world.machines part core) act).lines
@@ -285,7 +331,7 @@ lined_built network world part core act d e =
     let done : Stepped = done_by network world.machines part core in
     let before : ℕ = (machine_at world.machines part).inner.steps in
     let name : List ℕ = (desc_at network part).name in
-    let count : done.after.inner.steps ≡ before + 1 = own_steps (desc_at network part) (machine_at world.machines part) core [] ∙ (ap (λ (a : Act). steps_after a before) e ∙ done_counts act d before) in
+    let count : done.after.inner.steps ≡ before + 1 = (steps_so (desc_at network part) (machine_at world.machines part) core []).counted ∙ (ap (λ (a : Act). steps_after a before) e ∙ done_counts act d before) in
     agrees name (before + 1) act
     ∙ (ap (λ (n : ℕ). act_line name n (act_of act)) (sym count)
     ∙ (ap (act_line name done.after.inner.steps) (sym e)

@@ -1,5 +1,5 @@
 -- What the handles of all partitions lead to, and what the machine of the one that it is lent to has of its own.
-use Rattle.std.specs.Prelude.{◌≡◌, ◌≢◌, ℕ, ◌-◌, ◌<◌, ◌==◌, nat_lt, Bool, true, false, List, [], length, map, slice_index_or, slice_set}
+use Rattle.std.specs.Prelude.{◌≡◌, ◌≢◌, ℕ, ◌-◌, ◌<◌, ◌==◌, nat_lt, Bool, true, false, List, [], ◌∷◌, length, map, slice_index_or, slice_set}
 use Rattle.byte_channel.specs.declared.side.Side.TheVariants.{A}
 use Rattle.byte_channel.specs.Waiting.{Waiting, most_waiting, waiting_at, other_side, empty_channel, after_send, after_receive, after_clear}
 use Rattle.partition.specs.declared.kind.Kind.{Kind}
@@ -93,10 +93,19 @@ abbrev pub cleared_by : List Waiting → Wire → List Waiting
 cleared_by channels (Channel link side) = slice_set channels link (after_clear side (channel_at channels link))
 cleared_by channels _ = channels
 
+-- after all that waits at these ends was dropped
+abbrev pub all_cleared : List Wire → List Waiting → List Waiting
+all_cleared [] channels = channels
+all_cleared (wire ∷ wires) channels = all_cleared wires (cleared_by channels wire)
+
 -- after what waits at its far end was dropped
 abbrev pub printed_by : List Waiting → Wire → List Waiting
 printed_by channels (Channel link side) = slice_set channels link (after_clear (other_side side) (channel_at channels link))
 printed_by channels _ = channels
+
+-- after all that waits for a partition was dropped
+abbrev pub emptied_lines : Lines → ℕ → Lines
+emptied_lines lines part = record lines { channels = all_cleared (wires_at lines.wires part) lines.channels }
 
 abbrev pub Sends : Lines → ℕ → List ℕ → Lines → Type 0
 Sends old handle bytes new = new ≡ record old { channels = sent_by old.channels (own_wire old handle) bytes }

@@ -2,34 +2,40 @@
 use Rattle.std.specs.Prelude.{◌≡◌, ℕ, zero, suc, ◌+◌, ◌<◌, ◌≤◌, ◌==◌, Bool, true, false, if◌then◌else◌, List, length, map, slice_set, Option, Some}
 use Rattle.core_step.specs.declared.answer.Wrote.{Wrote}
 use Rattle.core_step.specs.Access.{SameSizes}
+use Rattle.ground.specs.Extents.{extent_at}
 use Rattle.ground.specs.Own.{KeepsForeign}
 use Rattle.machine_desc.specs.declared.act.Act.{Act as Told}
 use Rattle.machine_desc.specs.declared.act.Act.TheVariants as told
+use Rattle.machine_desc.specs.declared.act.State.TheVariants.{Stopped}
 use Rattle.machine_desc.specs.declared.wiring.End.{End}
 use Rattle.machine_desc.specs.declared.wiring.End.TheVariants.{Part, Console}
 use Rattle.machine_desc.specs.declared.wiring.Wiring.{Wiring}
 use Rattle.machine_desc.specs.declared.wiring.PortRef.{PortRef}
 use Rattle.machine_desc.specs.declared.wiring.Bell.{Bell}
-use Rattle.fresh_load.specs.Placed.{extents_of}
-use Rattle.partition.specs.Port.{kinds_of}
-use Rattle.partition.specs.Act.{act_of, steps_after}
+use Rattle.fresh_load.specs.Placed.{ArePlaced, extents_of, is_private_extent, sizes_of}
+use Rattle.partition.specs.Port.{End as OwnEnd, emptied, kinds_of}
+use Rattle.partition.specs.Act.{act_of, settled, steps_after}
+use Rattle.partition.specs.Event.{Event, apply}
+use Rattle.partition.specs.Event as event
 use Rattle.partition.specs.Step.{step}
 use Rattle.partition.specs.Reservations.{with_kept}
 use Rattle.partition.specs.Interrupts.{bell_at, rung_by}
-use Rattle.partition.specs.Lending.{Part as Member, Did, HasBytes, HasHandle, IsStepped, KeepsUnbuilt}
+use Rattle.partition.specs.Lending.{Part as Member, Did, HasBytes, HasEntry, HasHandle, IsStepped, KeepsUnbuilt, machine_of}
 use Rattle.network.specs.Network.{ref_to, hears, far_end}
-use Rattle.network.specs.World.{Counts, machine_at}
+use Rattle.network.specs.World.{Counts, counts_at, machine_at}
 use Rattle.network.specs.Effects.{count_printed}
-use Rattle.system.specs.Board.{Lines, own_wire, printed_by, Sends, Takes}
+use Rattle.system.specs.declared.wire.Wire.{Wire}
+use Rattle.system.specs.declared.wire.Wire.TheVariants.{Manage}
+use Rattle.system.specs.Board.{Lines, emptied_lines, own_ends, own_kinds, own_wire, printed_by, Sends, Takes}
 use Rattle.network.specs.Turn.{done_by, steps_in}
-use Rattle.system.specs.System.{Held, part_at, machine_by, network_of, machines_of, snapshot_of, IsSystem}
+use Rattle.system.specs.System.{Held, most_counted, part_at, machine_by, network_of, machines_of, snapshot_of, IsSystem}
 
 -- the partition that the board was lent to did a step of a core
 pub record AfterStep (before after : List Member) (old_memory new_memory : List (List ℕ)) (old new : Lines) (core : ℕ) (act : Told) (ranges : List Wrote) : Type 0 where
   pub parts : after ≡ slice_set before old.who (part_at after old.who)
   pub stepped : (feed : List ℕ) → IsStepped (extents_of (part_at before old.who).desc.regions)
       (step (part_at before old.who).desc (machine_by (part_at before old.who) old old_memory old.who) core feed)
-      (machine_by (part_at after old.who) new new_memory old.who) act ranges
+      (machine_of (part_at after old.who) (settled (act_of act) (own_ends new)) new_memory) act ranges
   pub desc : (part_at after old.who).desc ≡ (part_at before old.who).desc
   pub counted : (part_at after old.who).inner.steps ≡ steps_after (act_of act) (part_at before old.who).inner.steps
   pub others : KeepsForeign (extents_of (part_at before old.who).desc.regions) old_memory new_memory
@@ -37,6 +43,7 @@ pub record AfterStep (before after : List Member) (old_memory new_memory : List 
   pub kept : KeepsUnbuilt act (part_at before old.who) (part_at after old.who)
   pub memory : KeepsUnbuilt act old_memory new_memory
   pub bytes : HasBytes act
+  pub entry : HasEntry act
   pub handle : HasHandle (kinds_of (part_at before old.who).desc.ports) act
   pub did : Did Sends Takes act old new
 
@@ -79,19 +86,64 @@ printed_lines _ handle lines = lines
 abbrev pub marked_lines : Lines → ℕ → Bool → Lines
 marked_lines lines managed runs = record lines { running = slice_set lines.running managed runs }
 
--- The partitions, the board and the counts of consoles are as before, but for what the act says.
-abbrev pub Settles : Wiring → ℕ → Told → List Member → List Member → Lines → Lines → List Counts → List Counts → Type 0
-Settles wiring who (told.Sent handle bytes) parts rung lines left counts new =
-    (rung ≡ parts) × (left ≡ printed_lines (far_end wiring.links (Part (ref_to who handle))) handle lines) × (new ≡ count_printed (far_end wiring.links (Part (ref_to who handle))) (length bytes.items) counts)
-Settles wiring who (told.Rang handle) parts rung lines left counts new = Rings wiring.bells (ref_to who handle) parts rung × (left ≡ lines) × (new ≡ counts)
-Settles wiring who told.SelfStop parts rung lines left counts new = (rung ≡ parts) × (left ≡ marked_lines lines who false) × (new ≡ counts)
-Settles wiring who told.Faulted parts rung lines left counts new = (rung ≡ parts) × (left ≡ marked_lines lines who false) × (new ≡ counts)
-Settles wiring who act parts rung lines left counts new = (rung ≡ parts) × (left ≡ lines) × (new ≡ counts)
+-- the partition that a wire manages
+abbrev pub managed_by : Wire → ℕ
+managed_by (Manage part) = part
+managed_by _ = 0
+
+-- The partition of this number began anew by the event, but for its ends: what it received is still theirs to drop who lend them.
+-- No other partition changed, and of the memory only what it has for itself.
+pub record Begins (began : Event) (number : ℕ) (before after : List Member) (old_memory new_memory : List (List ℕ)) : Type 0 where
+  pub parts : after ≡ slice_set before number (part_at after number)
+  pub machine : (ends : List OwnEnd) → machine_of (part_at after number) (emptied ends) new_memory ≡ apply (part_at before number).desc (machine_of (part_at before number) ends old_memory) began
+  pub desc : (part_at after number).desc ≡ (part_at before number).desc
+  pub steps : (part_at after number).inner.steps ≡ (part_at before number).inner.steps
+  pub others : (extent : ℕ) → is_private_extent (part_at before number).desc.regions extent ≡ false → extent_at new_memory extent ≡ extent_at old_memory extent
+  pub sizes : sizes_of new_memory ≡ sizes_of old_memory
+
+-- a partition that no longer runs
+abbrev pub stopped_part : Member → Member
+stopped_part part = record part { inner = record part.inner { state = Stopped } }
+
+-- The partitions, their memory, the board and the counts of consoles are as before, but for what the act says.
+abbrev pub Settles : Wiring → ℕ → Told → List Member → List Member → List (List ℕ) → List (List ℕ) → Lines → Lines → List Counts → List Counts → Type 0
+Settles wiring who (told.Sent handle bytes) parts rung memory loaded lines left counts new =
+    (rung ≡ parts) × (left ≡ printed_lines (far_end wiring.links (Part (ref_to who handle))) handle lines) × (new ≡ count_printed (far_end wiring.links (Part (ref_to who handle))) (length bytes.items) counts) × (loaded ≡ memory)
+Settles wiring who (told.Rang handle) parts rung memory loaded lines left counts new = Rings wiring.bells (ref_to who handle) parts rung × (left ≡ lines) × (new ≡ counts) × (loaded ≡ memory)
+Settles wiring who (told.Start handle entry load) parts rung memory loaded lines left counts new =
+    Begins (event.Start entry load) (managed_by (own_wire lines handle)) parts rung memory loaded
+    × (left ≡ emptied_lines (marked_lines lines (managed_by (own_wire lines handle)) true) (managed_by (own_wire lines handle))) × (new ≡ counts) × Unit {0}
+Settles wiring who (told.Stop handle) parts rung memory loaded lines left counts new =
+    (rung ≡ slice_set parts (managed_by (own_wire lines handle)) (stopped_part (part_at parts (managed_by (own_wire lines handle)))))
+    × (left ≡ marked_lines lines (managed_by (own_wire lines handle)) false) × (new ≡ counts) × (loaded ≡ memory)
+Settles wiring who (told.Restart handle) parts rung memory loaded lines left counts new =
+    Begins event.Restart (managed_by (own_wire lines handle)) parts rung memory loaded
+    × (left ≡ emptied_lines (marked_lines lines (managed_by (own_wire lines handle)) true) (managed_by (own_wire lines handle))) × (new ≡ counts) × Unit {0}
+Settles wiring who told.SelfRestart parts rung memory loaded lines left counts new = (rung ≡ parts) × (left ≡ emptied_lines lines who) × (new ≡ counts) × (loaded ≡ memory)
+Settles wiring who told.SelfStop parts rung memory loaded lines left counts new = (rung ≡ parts) × (left ≡ marked_lines lines who false) × (new ≡ counts) × (loaded ≡ memory)
+Settles wiring who told.Faulted parts rung memory loaded lines left counts new = (rung ≡ parts) × (left ≡ marked_lines lines who false) × (new ≡ counts) × (loaded ≡ memory)
+Settles wiring who act parts rung memory loaded lines left counts new = (rung ≡ parts) × (left ≡ lines) × (new ≡ counts) × (loaded ≡ memory)
 
 -- a console at a far end is one of so many
 abbrev pub HasConsole : ℕ → Option End → Type 0
 HasConsole count (Some (Console console)) = console < count
 HasConsole count _ = Unit {0}
+
+-- the regions of each partition have their extents
+abbrev pub AreAllPlaced : List Member → List (List ℕ) → Type 0
+AreAllPlaced parts memory = (part : ℕ) → part < length parts → ArePlaced memory (part_at parts part).desc.regions
+
+-- What an act needs of those who settle it: its handle, its bytes and its entry are such as a step has, and the partitions, their
+-- memory, the board and the counts of consoles fit one another.
+pub record Asks (wiring : Wiring) (act : Told) (parts : List Member) (memory : List (List ℕ)) (lines : Lines) (counts : List Counts) : Type 0 where
+  pub who : lines.who < length lines.wires
+  pub count : length parts ≡ length lines.wires
+  pub placed : AreAllPlaced parts memory
+  pub handle : HasHandle (own_kinds lines) act
+  pub bytes : HasBytes act
+  pub entry : HasEntry act
+  pub consoles : (handle : ℕ) → HasConsole (length counts) (far_end wiring.links (Part (ref_to lines.who handle)))
+  pub few : (console : ℕ) → (counts_at counts console).printed < most_counted
 
 -- ---- the whole
 
@@ -105,10 +157,10 @@ pub record Turns (old new : Held) (core : ℕ) (act : Told) : Type 0 where
   pub counted : (part : ℕ) → (machine_at (machines_of new) part).inner.steps ≤ (machine_at (machines_of old) part).inner.steps + 1
 
 -- the others heard of a step's stores, and then the act was settled
-pub record Follows (wiring : Wiring) (who : ℕ) (act : Told) (stored : List Wrote) (parts rung : List Member) (lines left : Lines) (counts new : List Counts) : Type 0 where
+pub record Follows (wiring : Wiring) (who : ℕ) (act : Told) (stored : List Wrote) (parts rung : List Member) (memory loaded : List (List ℕ)) (lines left : Lines) (counts new : List Counts) : Type 0 where
   pub heard : List Member
   pub hears : Hears who stored parts heard
-  pub settles : Settles wiring who act heard rung lines left counts new
+  pub settles : Settles wiring who act heard rung memory loaded lines left counts new
 
 abbrev pub held_of : List Member → List (List ℕ) → Lines → Wiring → List Counts → Option ℕ → Held
 held_of parts memory lines wiring counts unbuilt = record { parts = parts; memory = memory; lines = lines; wiring = wiring; counts = counts; unbuilt = unbuilt }

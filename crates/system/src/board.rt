@@ -1,6 +1,6 @@
 //! What partitions share but for memory, lent to one of them at a time.
 
-ghost use Rattle.std.specs.Prelude.{◌≡◌, ◌+◌, ◌-◌, ◌<◌, ◌≤◌, min, Some, length, slice_set, take, IfOk};
+ghost use Rattle.std.specs.Prelude.{◌≡◌, ◌+◌, ◌-◌, ◌<◌, ◌≤◌, min, Some, length, slice_index_or, slice_set, take, IfOk};
 ghost use Rattle.machine_desc.specs.Joined.{AreJoined};
 ghost use Rattle.system.specs.Wired.{channel_wire, opening_lines};
 ghost use Rattle.byte_channel.specs.Waiting.{after_clear, other_side, waiting_at};
@@ -154,10 +154,36 @@ impl Board {
         }
     }
 
+    /// Drops what waits at the end of a channel that a handle of the partition is, by the handle's place; another handle has no
+    /// such end.
+    fn clear_wire(&mut self, part: usize, place: usize)
+        requires part { part < length self.old.wires }
+        requires place { place < length (spec.wires_at self.old.wires part) }
+        ensures { self.new ≡ record self.old {
+          channels = spec.cleared_by self.old.channels (slice_index_or (spec.wires_at self.old.wires part) place spec.no_wire);
+        } }
+    {
+        if let Wire::Channel { link, side } = self.wires[part].as_slice()[place] {
+            self.clear_at(link, side);
+        }
+    }
+
+    /// Drops what waits at each channel end of a partition.
+    #[tactic(auto, using(crate::proofs::Cleared::one_more_cleared, crate::proofs::Cleared::no_more_cleared))]
+    pub fn empty(&mut self, part: usize)
+        requires { part < length self.old.wires }
+        ensures { self.new ≡ spec.emptied_lines self.old part }
+    {
+        for place in 0..self.wires[part].as_slice().len() {
+            self.clear_wire(part, place);
+        }
+    }
+
     /// The partition that a handle manages.
     pub fn managed(&self, h: u32) -> usize
         requires { kind_at (spec.own_kinds self.now) h ≡ Some Kind.Manage }
-        ensures { spec.own_wire self.now h ≡ Wire.Manage result }
+        ensures managed { spec.own_wire self.now h ≡ Wire.Manage result }
+        ensures there { result < length self.now.wires }
     {
         match self.wire(h, Kind::Manage) {
             Wire::Manage { part } => part,
@@ -167,7 +193,7 @@ impl Board {
 
     /// Notes whether a partition runs.
     pub fn mark(&mut self, part: usize, running: bool)
-        requires { part < length self.old.running }
+        requires { part < length self.old.wires }
         ensures { self.new ≡ record self.old { running = slice_set self.old.running part running } }
     {
         self.running[part] = running;
@@ -205,6 +231,14 @@ impl Ports for Board {
     fn room(&self, h: u32) -> u16 {
         match self.wire(h, Kind::Channel) {
             Wire::Channel { link, side } => self.channels[link].room(side),
+            _ => unreachable!(),
+        }
+    }
+
+    #[tactic(auto, using(crate::proofs::Seen::end_here))]
+    fn running(&self, h: u32) -> bool {
+        match self.wire(h, Kind::Manage) {
+            Wire::Manage { part } => self.running[part],
             _ => unreachable!(),
         }
     }

@@ -1,17 +1,17 @@
 //! The parts of a turn.
 
-ghost use Rattle.std.specs.Prelude.{◌≡◌, ℕ, ◌<◌, ◌≤◌, None, Some, length};
+ghost use Rattle.std.specs.Prelude.{◌≡◌, ℕ, ◌%◌, ◌<◌, ◌≤◌, true, false, None, Some, length, slice_set};
 ghost use Rattle.core_step.specs.declared.answer.Wrote.{Wrote as WroteValue};
 ghost use Rattle.fresh_load.specs.Placed.{ArePlaced};
 ghost use Rattle.partition.specs.Port.{kinds_of, kind_at};
-ghost use Rattle.partition.specs.Lending.{HasBytes, HasHandle};
-ghost use Rattle.network.specs.Network.{far_end, ref_to};
+ghost use Rattle.partition.specs.Event.{Start, Restart};
+ghost use Rattle.network.specs.Network.{far_end};
 ghost use Rattle.network.specs.World.{counts_at};
 ghost use Rattle.network.specs.Effects.{count_printed};
 ghost use Rattle.partition.specs.Machine.{most_steps};
-ghost use Rattle.system.specs.Board.{own_kinds};
+ghost use Rattle.system.specs.Board.{emptied_lines, own_kinds, own_wire};
 ghost use Rattle.system.specs.System.{part_at, most_counted, IsSystem};
-ghost use Rattle.system.specs.Turning.{AfterStep, Follows, Hears, HasConsole, Settles, Turns, held_of, printed_lines};
+ghost use Rattle.system.specs.Turning.{AfterStep, AreAllPlaced, Asks, Begins, Follows, Hears, HasConsole, Settles, Turns, held_of, managed_by, marked_lines, printed_lines, stopped_part};
 
 use crate::board::Board;
 use crate::counts::Counts;
@@ -73,38 +73,88 @@ fn print(board: &mut Board, counts: &mut Vec<Counts>, links: &[Link], handle: Po
     }
 }
 
+/// The board knows that a partition began anew: it runs, and nothing that it received waits.
+fn begin_anew(board: &mut Board, part: usize)
+    requires { part < length board.old.wires }
+    ensures { board.new ≡ emptied_lines (marked_lines board.old part true) part }
+{
+    board.mark(part, true);
+    board.empty(part);
+}
+
+/// A partition starts that a handle manages, at an effective address; its memory is loaded anew or stays as it is.
+fn start_managed(
+    parts: &mut Vec<Partition>,
+    memory: &mut Ground,
+    board: &mut Board,
+    handle: u32,
+    entry: u32,
+    load: bool,
+)
+    requires parts { length parts.old.items ≡ length board.old.wires }
+    requires placed { AreAllPlaced parts.old.items memory.old }
+    requires manages { kind_at (own_kinds board.old) handle ≡ Some Kind.Manage }
+    requires entry { entry % 4 ≡ 0 }
+    ensures begins { Begins (Start entry load) (managed_by (own_wire board.old handle)) parts.old.items parts.new.items memory.old memory.new }
+    ensures board { board.new ≡ emptied_lines (marked_lines board.old (managed_by (own_wire board.old handle)) true) (managed_by (own_wire board.old handle)) }
+{
+    let managed = board.managed(handle);
+    parts[managed].start(entry, load, memory);
+    begin_anew(board, managed);
+}
+
+/// A partition restarts that a handle manages.
+fn restart_managed(parts: &mut Vec<Partition>, memory: &mut Ground, board: &mut Board, handle: u32)
+    requires parts { length parts.old.items ≡ length board.old.wires }
+    requires placed { AreAllPlaced parts.old.items memory.old }
+    requires manages { kind_at (own_kinds board.old) handle ≡ Some Kind.Manage }
+    ensures begins { Begins Restart (managed_by (own_wire board.old handle)) parts.old.items parts.new.items memory.old memory.new }
+    ensures board { board.new ≡ emptied_lines (marked_lines board.old (managed_by (own_wire board.old handle)) true) (managed_by (own_wire board.old handle)) }
+{
+    let managed = board.managed(handle);
+    parts[managed].restart(memory);
+    begin_anew(board, managed);
+}
+
+/// A partition stops that a handle manages.
+fn stop_managed(parts: &mut Vec<Partition>, board: &mut Board, handle: u32)
+    requires parts { length parts.old.items ≡ length board.old.wires }
+    requires manages { kind_at (own_kinds board.old) handle ≡ Some Kind.Manage }
+    ensures stopped { parts.new.items ≡ slice_set parts.old.items (managed_by (own_wire board.old handle)) (stopped_part (part_at parts.old.items (managed_by (own_wire board.old handle)))) }
+    ensures board { board.new ≡ marked_lines board.old (managed_by (own_wire board.old handle)) false }
+{
+    let managed = board.managed(handle);
+    parts[managed].stop();
+    board.mark(managed, false);
+}
+
 /// What others than the stepping partition get of its act.
 pub fn settle(
     parts: &mut Vec<Partition>,
+    memory: &mut Ground,
     board: &mut Board,
     counts: &mut Vec<Counts>,
     wiring: &Wiring,
     act: &Act,
 )
-    requires who { board.old.who < length board.old.running }
-    requires handle { HasHandle (own_kinds board.old) act.now }
-    requires bytes { HasBytes act.now }
-    requires consoles { (handle : ℕ) → HasConsole (length counts.old.items) (far_end wiring.now.links (End.Part (ref_to board.old.who handle))) }
-    requires few { (console : ℕ) → (counts_at counts.old.items console).printed < most_counted }
-    ensures { Settles wiring.now board.old.who act.now parts.old.items parts.new.items board.old board.new counts.old.items counts.new.items }
+    requires asks { Asks wiring.now act.now parts.old.items memory.old board.old counts.old.items }
+    ensures { Settles wiring.now board.old.who act.now parts.old.items parts.new.items memory.old memory.new board.old board.new counts.old.items counts.new.items }
 {
-    let who = board.who();
+    let part = board.who();
     match act {
         Act::Sent { h, bytes } => {
-            let handle = PortRef {
-                part: who,
-                handle: *h,
-            };
-            print(board, counts, wiring.links.as_slice(), handle, bytes.len());
+            let sender = PortRef { part, handle: *h };
+            print(board, counts, wiring.links.as_slice(), sender, bytes.len());
         }
         Act::Rang { h } => {
-            let sender = PortRef {
-                part: who,
-                handle: *h,
-            };
+            let sender = PortRef { part, handle: *h };
             ring_all(parts, wiring.bells.as_slice(), sender);
         }
-        Act::SelfStop | Act::Faulted => board.mark(who, false),
+        Act::Start { h, entry, load } => start_managed(parts, memory, board, *h, *entry, *load),
+        Act::Stop { h } => stop_managed(parts, board, *h),
+        Act::Restart { h } => restart_managed(parts, memory, board, *h),
+        Act::SelfRestart => board.empty(part),
+        Act::SelfStop | Act::Faulted => board.mark(part, false),
         _ => {}
     }
 }
@@ -112,21 +162,18 @@ pub fn settle(
 /// The others hear of a step's stores and of its act.
 fn follow(
     parts: &mut Vec<Partition>,
+    memory: &mut Ground,
     board: &mut Board,
     counts: &mut Vec<Counts>,
     wiring: &Wiring,
     act: &Act,
     stored: &[Wrote],
 )
-    requires who { board.old.who < length board.old.running }
-    requires handle { HasHandle (own_kinds board.old) act.now }
-    requires bytes { HasBytes act.now }
-    requires consoles { (handle : ℕ) → HasConsole (length counts.old.items) (far_end wiring.now.links (End.Part (ref_to board.old.who handle))) }
-    requires few { (console : ℕ) → (counts_at counts.old.items console).printed < most_counted }
-    ensures { Follows wiring.now board.old.who act.now stored.now parts.old.items parts.new.items board.old board.new counts.old.items counts.new.items }
+    requires asks { Asks wiring.now act.now parts.old.items memory.old board.old counts.old.items }
+    ensures { Follows wiring.now board.old.who act.now stored.now parts.old.items parts.new.items memory.old memory.new board.old board.new counts.old.items counts.new.items }
 {
     tell_stored(parts, board.who(), stored);
-    settle(parts, board, counts, wiring, act);
+    settle(parts, memory, board, counts, wiring, act);
 }
 
 /// A step of a core of the partition that the board is lent to, and all that it brings. A step that isn't built is noted.
@@ -152,7 +199,15 @@ pub fn step_all(
     let Acts { act, shared } = step_part(parts, memory, board, who, core);
     match act {
         Act::NotBuilt => *unbuilt = Some(parts[who].steps() + 1),
-        _ => follow(parts, board, counts, wiring, &act, shared.as_slice()),
+        _ => follow(
+            parts,
+            memory,
+            board,
+            counts,
+            wiring,
+            &act,
+            shared.as_slice(),
+        ),
     }
     act
 }

@@ -1,0 +1,1 @@
+-- A partition begins anew.
