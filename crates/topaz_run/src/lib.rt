@@ -35,18 +35,3 @@ pub use laws::{
 };
 pub use status::Status;
 pub use top_call::topaz;
-
-#[cfg(test)]
-mod blob_tests;
-#[cfg(test)]
-mod bundles;
-#[cfg(test)]
-mod check_blobs;
-#[cfg(test)]
-mod check_tests;
-#[cfg(test)]
-mod images;
-#[cfg(test)]
-mod run_tests;
-#[cfg(test)]
-mod tests;

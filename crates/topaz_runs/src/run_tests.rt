@@ -1,14 +1,14 @@
 //! What no clause says of `run`: what is written of bundles that were worked out by hand.
 
-use super::bundles::blob;
-use super::check_tests::{answer, hardware, two};
-use super::images::{
+use crate::bundles::blob;
+use crate::check_tests::{answer, hardware, two};
+use crate::images::{
     CLOCK, ECHO, FILL, HEAR, HELLO, HOLD, LOOK, PASS, RING, START, TAKE, UNBACKED,
 };
-use super::{Status, topaz};
 use outside::{Bytes, MemFiles, MemSink, NamedFile, NoMemory};
 use std::alloc::Global;
 use std::test::Fail;
+use topaz_run::{Status, topaz};
 
 /// An ELF file up to the end of its header: the entry, then a table of one row right behind the header.
 const HEADER: [u32; 13] = [
@@ -270,7 +270,7 @@ fn bundle(
 }
 
 /// The files `c`, `h`, `a`, `b`, `c` and `s` of a configuration in short.
-fn short_bundle(
+pub fn short_bundle(
     alloc: Global,
     config: &str,
     images: [&[u32]; 3],
@@ -290,7 +290,7 @@ fn short_bundle(
 }
 
 /// The order in which each core has so many turns, one behind the other.
-fn order(alloc: Global, turns: &[(u8, usize)]) -> Result<Bytes, NoMemory> {
+pub fn order(alloc: Global, turns: &[(u8, usize)]) -> Result<Bytes, NoMemory> {
     let mut script = Vec::from_slice(alloc, b"order")?;
     for (core, count) in turns {
         for _turn in 0..*count {
@@ -302,7 +302,7 @@ fn order(alloc: Global, turns: &[(u8, usize)]) -> Result<Bytes, NoMemory> {
 }
 
 /// Whether the words write the text, and are done or refused as the text says.
-fn writes(
+pub fn writes(
     alloc: Global,
     config: &str,
     list: Vec<NamedFile>,

@@ -2,10 +2,10 @@
 
 ghost use Rattle.std.specs.Prelude.{◌≤◌};
 
-use super::{Status, topaz};
 use outside::{Bytes, MemFiles, MemSink, NamedFile, NoMemory};
 use std::alloc::Global;
 use std::test::Fail;
+use topaz_run::{Status, topaz};
 
 /// The blob of a root without properties.
 const SMALLEST: [u32; 18] = [

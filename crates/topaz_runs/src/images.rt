@@ -98,10 +98,10 @@ pub const RECEIVE: [u32; 15] = [
     0x4800_0000, // b .
 ];
 
-/// Asks for a service of managers, which isn't built yet.
+/// Asks to copy memory, which isn't built yet.
 pub const NOT_BUILT: [u32; 3] = [
     0x3D60_0002, // lis r11,2
-    0x616B_0004, // ori r11,r11,4
+    0x616B_0008, // ori r11,r11,8
     0x4400_0022, // sc 1
 ];
 

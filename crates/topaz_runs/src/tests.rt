@@ -1,10 +1,10 @@
 //! What no clause says: that the texts are those that were worked out by hand, and that a call succeeds
 //! where memory is ample.
-use super::images::*;
-use super::{Status, topaz};
+use crate::images::*;
 use outside::{Bytes, MemFiles, MemSink, NamedFile, NoMemory, SureFiles};
 use std::alloc::{AllocError, Global};
 use std::test::Fail;
+use topaz_run::{Status, topaz};
 
 const HELLO_TEXT: &str = "guest 6 sent 1 4869\nend guest running 7\nconsole con 2 0 0\n";
 

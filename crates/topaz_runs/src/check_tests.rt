@@ -1,12 +1,12 @@
 //! What no clause says of `check` and `guest`: what is written of configurations that were worked out by hand.
 
-use super::check_blobs::*;
-use super::{Status, topaz};
+use crate::check_blobs::*;
 use dt_model::{Tree, node_at, prop};
 use dt_read::{BlobFault, read};
 use outside::{Bytes, MemFiles, MemSink, NamedFile, NoMemory};
 use std::alloc::Global;
 use std::test::Fail;
+use topaz_run::{Status, topaz};
 
 /// Words from a place to another one, both included, that are this one instead.
 pub type Change = (usize, usize, u32);

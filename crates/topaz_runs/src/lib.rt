@@ -1,0 +1,22 @@
+//! Calls of `topaz` whose answers were worked out by hand, as tests: what no clause says of it.
+//!
+//! They stand in a crate of their own, since a crate with tests is proved twice. Each test makes its files in memory: blobs
+//! of trees in a short form, images of words, scripts as text.
+#![tactic(auto)]
+
+#[cfg(test)]
+mod blob_tests;
+#[cfg(test)]
+mod bundles;
+#[cfg(test)]
+mod check_blobs;
+#[cfg(test)]
+mod check_tests;
+#[cfg(test)]
+mod images;
+#[cfg(test)]
+mod manager_tests;
+#[cfg(test)]
+mod run_tests;
+#[cfg(test)]
+mod tests;
