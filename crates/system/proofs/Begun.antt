@@ -1,33 +1,27 @@
 -- The machines where a partition was started, restarted or stopped by its manager, or restarted itself.
-use Rattle.std.proofs.Common.{◌≡◌, ℕ, zero, suc, ◌+◌, ◌-◌, ◌<◌, ◌==◌, Bool, true, false, if◌then◌else◌, List, [], ◌∷◌, length, length-set, map, slice_index_or, slice_set, Option, Some, None, refl, sym, ap, subst, ◌∙◌, arith}
+use Rattle.std.proofs.Common.{◌≡◌, ℕ, ◌<◌, ◌==◌, Bool, true, false, if◌then◌else◌, List, [], ◌∷◌, length, length-set, map, slice_set, Option, refl, sym, ap, subst, ◌∙◌, arith}
 use Rattle.std.specs.List.{list_any}
-use Rattle.std.proofs.lemmas.Bool.{false≢true, eqb-true, eqb-false, eq-eqb}
-use Rattle.std.proofs.lemmas.List.{length-map, get_or-map, get_or-set_same, get_or-set_other}
-use Rattle.byte_channel.specs.Waiting.{Waiting}
+use Rattle.std.proofs.lemmas.Bool.{eqb-true, eqb-false, eq-eqb}
+use Rattle.std.proofs.lemmas.List.{length-map, get_or-set_same, get_or-set_other}
 use Rattle.core_step.specs.declared.answer.Wrote.{Wrote}
 use Rattle.ground.specs.Extents.{extent_at}
 use Rattle.ground.specs.Own.{own_of}
 use Rattle.machine_desc.specs.declared.act.Act.{Act as Told}
 use Rattle.machine_desc.specs.declared.desc.Desc.{Desc}
 use Rattle.machine_desc.specs.declared.desc.Region.{Region}
-use Rattle.machine_desc.specs.declared.wiring.PortRef.{PortRef}
-use Rattle.machine_desc.specs.declared.wiring.End.{End as LinkEnd}
-use Rattle.machine_desc.specs.declared.wiring.End.TheVariants.{Part, Console}
-use Rattle.machine_desc.specs.Joined.{names_extent, AreJoined}
+use Rattle.machine_desc.specs.Joined.{names_extent}
 use Rattle.fresh_load.specs.Placed.{extents_of, is_private_extent}
-use Rattle.partition.specs.declared.kind.Kind.TheVariants as kind
-use Rattle.partition.specs.Port.{End, empty_end, emptied, kind_at}
+use Rattle.partition.specs.Port.{End, emptied}
 use Rattle.partition.specs.Event.{Event, Stop, apply}
 use Rattle.partition.specs.Machine.{Machine, fresh}
 use Rattle.partition.specs.Lending.{Part as Member, machine_of}
-use Rattle.network.specs.Network.{Network, no_desc, desc_at, far_of}
+use Rattle.network.specs.Network.{Network, no_desc, desc_at}
 use Rattle.network.specs.World.{Counts, Delivery, to_part, delivered, machine_at, after_log}
 use Rattle.network.specs.Effects.{returned_room}
 use Rattle.system.specs.declared.wire.Wire.{Wire}
-use Rattle.system.specs.declared.wire.Wire.TheVariants.{Channel, Send, Receive, Manage}
 use Rattle.system.specs.Board.{Lines, AreWires, ends_of, wires_at, all_cleared, emptied_lines}
 use Rattle.system.specs.Channels.{wires_of}
-use Rattle.system.specs.System.{Held, no_part, part_at, descs_of, network_of, machine_by, machine_in, machines_of, IsSystem}
+use Rattle.system.specs.System.{Held, no_part, part_at, descs_of, network_of, machine_by, machines_of, IsSystem}
 use Rattle.system.specs.Turning.{Begins, marked_lines, stopped_part}
 use Rattle.system.proofs.Far.{part_wires}
 use Rattle.system.proofs.Loaded.{private_apart, own_same}
@@ -37,7 +31,7 @@ use Rattle.system.proofs.Delivered.{with_ports}
 use Rattle.system.proofs.Shown.{after_shown, desc_there}
 use Rattle.system.proofs.Told.{IsHeard, heard_long, heard_desc}
 use Rattle.system.proofs.Acts.{left_by}
-use Rattle.system.proofs.Commanded.{IsCommand, marked_other, emptied_own}
+use Rattle.system.proofs.Commanded.{IsCommand, marked_other}
 use Rattle.system.proofs.Logged.{after_deliveries, given_to, one_more, logged_machines}
 
 -- ---- a partition's machine, and the room that another gets from it

@@ -1,5 +1,5 @@
 -- Channel ends from which all that waits was dropped, one after the other.
-use Rattle.std.proofs.Common.{◌≡◌, ℕ, zero, suc, ◌+◌, ◌-◌, ◌<◌, List, [], ◌∷◌, drop, drop-cons, drop_of_length-le, add-one, length, slice_index_or, refl, sym, ap, ◌∙◌, arith}
+use Rattle.std.proofs.Common.{◌≡◌, ℕ, ◌+◌, ◌<◌, List, drop, drop-cons, drop_of_length-le, add-one, length, slice_index_or, sym, ap, ◌∙◌, arith}
 use Rattle.byte_channel.specs.Waiting.{Waiting}
 use Rattle.system.specs.declared.wire.Wire.{Wire}
 use Rattle.system.specs.Board.{no_wire, cleared_by, all_cleared}

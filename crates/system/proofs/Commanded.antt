@@ -1,9 +1,8 @@
 -- A manager's own machine after its command, and that of a partition that restarts itself.
-use Rattle.std.proofs.Common.{◌≡◌, ℕ, ◌+◌, ◌-◌, ◌<◌, ◌==◌, Bool, true, false, not, ◌&&◌, if◌then◌else◌, nat_lt, List, length, map, slice_index_or, Option, Some, None, refl, sym, ap, subst, ◌∙◌, arith}
+use Rattle.std.proofs.Common.{◌≡◌, ℕ, ◌+◌, ◌-◌, ◌<◌, ◌==◌, Bool, true, false, not, ◌&&◌, List, length, slice_index_or, Option, Some, None, refl, sym, ap, subst, ◌∙◌, arith}
 use Rattle.std.specs.Option.{option_map_or, option_and_then}
 use Rattle.std.proofs.lemmas.Bool.{and_parts, false≢true, eqb-true, eq-eqb, ltb-true}
 use Rattle.std.proofs.lemmas.List.{length-map}
-use Rattle.byte_channel.specs.Waiting.{Waiting}
 use Rattle.machine_desc.specs.declared.act.Act.{Act as Told}
 use Rattle.machine_desc.specs.declared.act.Act.TheVariants as told
 use Rattle.machine_desc.specs.declared.desc.Port.{Port}
@@ -14,7 +13,6 @@ use Rattle.partition.specs.declared.kind.Kind.{Kind}
 use Rattle.partition.specs.declared.kind.Kind.TheVariants as kind
 use Rattle.partition.specs.Port.{End, kind_at, told_on, emptied, kinds_of as described_kinds}
 use Rattle.partition.specs.Act.{act_of, settled}
-use Rattle.partition.specs.Machine.{Machine}
 use Rattle.partition.specs.Lending.{Part as Member, machine_of, Did, HasHandle}
 use Rattle.network.specs.Network.{Network, no_desc, ref_to, manager_of, managed as managed_of, managed_by as managed_by_network}
 use Rattle.system.specs.declared.wire.Wire.{Wire}

@@ -1,25 +1,24 @@
 -- What a partition received is dropped: its own ends, and those of all others.
-use Rattle.std.proofs.Common.{◌≡◌, ◌≢◌, ℕ, zero, suc, ◌+◌, ◌-◌, ◌<◌, ◌==◌, Bool, true, false, if◌then◌else◌, List, [], ◌∷◌, ◌++◌, drop, drop_of_length-le, length, map, slice_index_or, slice_set, Option, Some, None, refl, sym, ap, subst, ◌∙◌, arith, length-set}
+use Rattle.std.proofs.Common.{◌≡◌, ◌≢◌, ℕ, zero, suc, ◌+◌, ◌-◌, ◌<◌, ◌==◌, Bool, true, false, if◌then◌else◌, List, [], ◌∷◌, ◌++◌, drop_of_length-le, length, map, slice_index_or, slice_set, Option, Some, None, refl, sym, ap, subst, ◌∙◌, arith, length-set}
 use Rattle.std.specs.Prelude.{slice_get, nat_lt}
 use Rattle.std.proofs.lemmas.Bool.{eqb-true, eqb-false, ltb-true, ltb-false}
 use Rattle.std.proofs.lemmas.List.{get_or-set_same, get_or-set_other, get_or_past, set-get_or}
 use Rattle.byte_channel.specs.declared.side.Side.{Side}
 use Rattle.byte_channel.specs.declared.side.Side.TheVariants.{A, B}
-use Rattle.byte_channel.specs.Waiting.{Waiting, waiting_at, other_side, empty_channel, after_receive, after_clear}
+use Rattle.byte_channel.specs.Waiting.{Waiting, waiting_at, empty_channel, after_receive, after_clear}
 use Rattle.machine_desc.specs.declared.desc.Desc.{Desc}
 use Rattle.machine_desc.specs.declared.wiring.PortRef.{PortRef}
 use Rattle.machine_desc.specs.declared.wiring.End.{End as LinkEnd}
 use Rattle.machine_desc.specs.declared.wiring.End.TheVariants.{Part, Console}
 use Rattle.machine_desc.specs.Joined.{AreJoined}
-use Rattle.partition.specs.declared.kind.Kind.TheVariants as kind
 use Rattle.partition.specs.Port.{End, empty_end, end_at, kind_at, freed_on, emptied}
 use Rattle.partition.specs.Event.{Room, apply}
 use Rattle.partition.specs.Machine.{Machine}
 use Rattle.partition.specs.Reached.{Takes}
 use Rattle.network.specs.Network.{Network, far_of}
 use Rattle.network.specs.Change.{Change, Moves, changed, after_changes}
-use Rattle.network.specs.World.{Delivery, to_part, delivered, changes_of}
-use Rattle.network.specs.Effects.{room_at, room_for, room_from}
+use Rattle.network.specs.World.{Delivery, delivered, changes_of}
+use Rattle.network.specs.Effects.{room_for, room_from}
 use Rattle.system.specs.declared.wire.Wire.{Wire}
 use Rattle.system.specs.declared.wire.Wire.TheVariants.{Channel, Send, Receive, Manage}
 use Rattle.system.specs.Board.{kind_of, kinds_of, channel_at, end_of, ends_of, no_wire, wires_at, taken_by, cleared_by, all_cleared, have_channel, is_tied, AreWires}

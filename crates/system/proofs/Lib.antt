@@ -22,7 +22,6 @@ pub mod Managers
 pub mod Commanded
 pub mod Logged
 pub mod Begun
-pub mod Anew
 pub mod Settled
 pub mod Kept
 pub mod Turned

@@ -9,7 +9,7 @@ use Rattle.partition.specs.Machine.{Machine}
 use Rattle.partition.specs.Reached.{Takes}
 use Rattle.partition.specs.Lending.{Part as Member}
 use Rattle.network.specs.Network.{Network, desc_at}
-use Rattle.network.specs.Change.{Change, Moves, changed, after_changes}
+use Rattle.network.specs.Change.{Moves, changed, after_changes}
 use Rattle.network.specs.World.{Counts, Entry, Delivery, delivered, machine_at, changes_of, after_log}
 use Rattle.network.proofs.Logs.{follows_changes}
 use Rattle.system.specs.Board.{Lines}

@@ -1,5 +1,4 @@
-use Rattle.std.proofs.Common.{◌≡◌, ℕ, drop, List}
-use Rattle.byte_channel.specs.Waiting.{Waiting}
+use Rattle.std.proofs.Common.{◌≡◌, drop}
 use Rattle.system.specs.Board.{all_cleared, wires_at}
 use Rattle.system.proofs.board.Board.empty.Given as goal
 

@@ -1,1 +1,0 @@
--- A partition begins anew.
