@@ -243,9 +243,9 @@ static COURSES: [Course; 27] = [
         ],
     ),
     // what isn't built leaves the machine
-    // a call of managers
+    // the copying of memory
     (
-        &[0x3D60_0002, 0x616B_0004, 0x4400_0022],
+        &[0x3D60_0002, 0x616B_0008, 0x4400_0022],
         &[
             Quiet(2),
             NotBuilt,
@@ -258,7 +258,7 @@ static COURSES: [Course; 27] = [
     (
         &[
             0x3D60_0002,
-            0x616B_0004,
+            0x616B_0008,
             0x3860_0001,
             0x7C76_03A6,
             0x4400_0022,
@@ -275,7 +275,7 @@ static COURSES: [Course; 27] = [
     (
         &[
             0x3D60_0002,
-            0x616B_0004,
+            0x616B_0008,
             0x3C80_0400,
             0x7C94_53A6,
             0x3860_0003,
@@ -299,16 +299,17 @@ pub fn courses() -> &'static [Course] {
 }
 
 /// What `stwcx.` stores where the reservation holds.
-const STORE: [Wrote; 1] = [Wrote {
+pub const STORE: [Wrote; 1] = [Wrote {
     extent: 1,
     at: 0x40,
     len: 4,
 }];
 
-/// CR where `stwcx.` stored nothing, and where it stored.
-const LOST: u32 = 0;
+/// CR where `stwcx.` stored nothing.
+pub const LOST: u32 = 0;
 
-const KEPT: u32 = 0x2000_0000;
+/// CR where it stored.
+pub const KEPT: u32 = 0x2000_0000;
 
 /// A run of a machine of several regions: they, the bytes of each extent, the words of its image, and its turns.
 pub type Layout = (

@@ -20,9 +20,13 @@ const LIMIT: u64 = 1_000_000_000_000;
 /// More bytes than a machine may have.
 const MOST_BYTES: u64 = 0x4000_0000;
 
+/// The place of a manager's tree.
+pub const TREE_AT: u32 = 0x0123_4567;
+
 /// A machine of one core in short: its regions, the bytes of each extent, the words of its image, which lies at 0, the
 /// place of its tree, its entry, and whether it begins held. Handle 1 is a channel with the interrupts 0 and 1, handle 2
-/// a doorbell that it rings, and handle 3 one that rings it by interrupt 2.
+/// a doorbell that it rings, and handle 3 one that rings it by interrupt 2. Handle 4 is a partition that it manages, where
+/// it is said whether that one begins held; else there is no handle 4.
 #[derive(Clone, Copy)]
 pub struct Draft<'a> {
     pub regions: &'a [Place],
@@ -31,6 +35,7 @@ pub struct Draft<'a> {
     pub tree_at: u64,
     pub entry: u32,
     pub held: bool,
+    pub managed: Option<bool>,
 }
 
 /// A region in short: its logical address, its size in bytes, its extent, and whether it is private.
@@ -45,6 +50,20 @@ pub fn built_in(image: &[u32]) -> Draft<'_> {
         tree_at: 0,
         entry: 0,
         held: false,
+        managed: None,
+    }
+}
+
+/// A machine with this entry and image that manages a partition, which begins held or not. Beside its private page at 0 it
+/// has a shared one at 0x1000, of extent 1.
+pub fn manager(held: bool, entry: u32, image: &[u32]) -> Draft<'_> {
+    Draft {
+        regions: &[(0, 0x1000, 0, true), (0x1000, 0x1000, 1, false)],
+        sizes: &[0x1000, 0x1000],
+        tree_at: u64::from(TREE_AT),
+        entry,
+        managed: Some(held),
+        ..built_in(image)
     }
 }
 
@@ -77,19 +96,31 @@ fn regions_of(alloc: Global, places: &[Place]) -> Result<Listed<Region>, NoMemor
     Ok(regions)
 }
 
-/// Its description.
-fn desc_of(alloc: Global, draft: &Draft) -> Result<Desc, NoMemory> {
-    let mut pieces = Listed::new(alloc);
-    pieces.push(piece_of(alloc, draft.image)?)?;
+/// Its ports.
+fn ports_of(alloc: Global, managed: Option<bool>) -> Result<Listed<Port>, NoMemory> {
     let mut ports = Listed::new(alloc);
     ports.push(Port::Channel { rx: 0, tx: 1 })?;
     ports.push(Port::Send)?;
     ports.push(Port::Receive { irq: 2 })?;
+    if let Some(held) = managed {
+        ports.push(Port::Manage {
+            part: 1,
+            held,
+            private: Listed::new(alloc),
+        })?;
+    }
+    Ok(ports)
+}
+
+/// Its description.
+fn desc_of(alloc: Global, draft: &Draft) -> Result<Desc, NoMemory> {
+    let mut pieces = Listed::new(alloc);
+    pieces.push(piece_of(alloc, draft.image)?)?;
     Ok(Desc {
         name: Bytes::of(alloc, b"guest")?,
         regions: regions_of(alloc, draft.regions)?,
         cores: Listed::from_vec(Vec::from_slice(alloc, &[0])?),
-        ports,
+        ports: ports_of(alloc, draft.managed)?,
         tree_at: draft.tree_at,
         tree_size: 0,
         entry: draft.entry,
@@ -190,6 +221,26 @@ pub fn try_give(machine: &mut LoneMachine, bytes: &[u8]) -> Option<()> {
         }
         _ => None,
     }
+}
+
+/// Tells it whether the partition of handle 4 runs, where that is one that it manages.
+pub fn try_tell(machine: &mut LoneMachine, runs: bool) -> Option<()> {
+    match kind_at(machine.desc().ports.as_slice(), 4) {
+        Some(Kind::Manage) => {
+            machine.tell(4, runs);
+            Some(())
+        }
+        _ => None,
+    }
+}
+
+/// Starts it at this entry, where an instruction can lie there, with its memory loaded anew or not.
+pub fn try_start(machine: &mut LoneMachine, entry: u32, load: bool) -> Option<()> {
+    if entry % 4 != 0 {
+        return None;
+    }
+    machine.start(entry, load);
+    Some(())
 }
 
 /// How many bytes wait on handle 1, where it is a channel.

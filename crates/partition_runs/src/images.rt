@@ -654,3 +654,91 @@ pub const STORES: [u32; 5] = [
     0x7CC0_0026, // mfcr r6
     0x4BFF_FFF0, // b .-16
 ];
+
+/// Loads a private and a shared word, asks how channel 1 and interrupt 2 stand, changes all of that, and restarts itself.
+/// It begins at 32, and its first word is its private one.
+pub const SELF_RESTART: [u32; 39] = [
+    0x1234_5678, // no instruction
+    0x6000_0000, // nop
+    0x6000_0000, // nop
+    0x6000_0000, // nop
+    0x6000_0000, // nop
+    0x6000_0000, // nop
+    0x6000_0000, // nop
+    0x6000_0000, // nop
+    0x8280_0000, // lwz r20,0(0)
+    0x82A0_1000, // lwz r21,4096(0)
+    0x7ECC_42A6, // mftb r22
+    0x3860_0001, // li r3,1
+    0x3D60_0001, // lis r11,1
+    0x616B_0003, // ori r11,r11,3
+    0x4400_0022, // sc 1
+    0x7C97_2378, // mr r23,r4
+    0x7CB8_2B78, // mr r24,r5
+    0x3D60_0001, // lis r11,1
+    0x616B_0007, // ori r11,r11,7
+    0x3860_0002, // li r3,2
+    0x4400_0022, // sc 1
+    0x7C99_2378, // mr r25,r4
+    0x38A0_0055, // li r5,85
+    0x90A0_0000, // stw r5,0(0)
+    0x90A0_1000, // stw r5,4096(0)
+    0x3D60_0001, // lis r11,1
+    0x616B_0006, // ori r11,r11,6
+    0x3860_0002, // li r3,2
+    0x3880_0000, // li r4,0
+    0x4400_0022, // sc 1
+    0x3D60_0001, // lis r11,1
+    0x616B_0001, // ori r11,r11,1
+    0x3860_0001, // li r3,1
+    0x3880_0002, // li r4,2
+    0x4400_0022, // sc 1
+    0x3D60_0002, // lis r11,2
+    0x616B_0004, // ori r11,r11,4
+    0x3860_FFFF, // li r3,-1
+    0x4400_0022, // sc 1
+];
+
+/// Asks whether interrupt 2 is masked, ends its service, unmasks it, and acknowledges one.
+pub const SERVICE: [u32; 20] = [
+    0x3D60_0001, // lis r11,1
+    0x616B_0007, // ori r11,r11,7
+    0x3860_0002, // li r3,2
+    0x4400_0022, // sc 1
+    0x7C94_2378, // mr r20,r4
+    0x3D60_0001, // lis r11,1
+    0x616B_000A, // ori r11,r11,10
+    0x3860_0002, // li r3,2
+    0x4400_0022, // sc 1
+    0x7C75_1B78, // mr r21,r3
+    0x3D60_0001, // lis r11,1
+    0x616B_0006, // ori r11,r11,6
+    0x3860_0002, // li r3,2
+    0x3880_0000, // li r4,0
+    0x4400_0022, // sc 1
+    0x3D60_0001, // lis r11,1
+    0x616B_0009, // ori r11,r11,9
+    0x4400_0022, // sc 1
+    0x7C96_2378, // mr r22,r4
+    0x4800_0000, // b 4c
+];
+
+/// Stores where a reservation holds, and then reserves the block at 0x1040, again and again.
+pub const RESERVED: [u32; 5] = [
+    0x3860_1040, // li r3,0x1040
+    0x7CA0_192D, // stwcx. r5,0,r3
+    0x7CC0_0026, // mfcr r6
+    0x7C80_1828, // lwarx r4,0,r3
+    0x4BFF_FFF4, // b .-12
+];
+
+/// Sets the decrementer, and stores to its last word; what stands at 16 loads that word.
+pub const STORED: [u32; 7] = [
+    0x38A0_0055, // li r5,85
+    0x7CB6_03A6, // mtdec r5
+    0x90A0_0018, // stw r5,24(0)
+    0x4800_0000, // b c
+    0x8280_0018, // lwz r20,24(0)
+    0x4800_0000, // b 14
+    0x1234_5678, // no instruction
+];

@@ -13,6 +13,8 @@ mod guests;
 #[cfg(test)]
 mod images;
 #[cfg(test)]
+mod managers;
+#[cfg(test)]
 mod tests;
 #[cfg(test)]
 mod turns;

@@ -1,10 +1,11 @@
 //! The tests.
 
 use crate::courses::{courses, layouts, starts};
-use crate::drafts::{Draft, built_in};
+use crate::drafts::{Draft, built_in, manager};
 use crate::guests::guests;
 use crate::images::HELLO;
-use crate::turns::{first_wrong_call, first_wrong_turn};
+use crate::managers::managers;
+use crate::turns::{first_wrong_call, first_wrong_turn, image_of};
 use machine_desc::Port;
 use partition::{MemPorts, Ports};
 use std::test::*;
@@ -51,6 +52,21 @@ fn machines_begin_as_they_are_described(rt: HostRuntime) -> Result<(), Fail> {
 fn guests_are_answered_as_it_was_worked_out(rt: HostRuntime) -> Result<(), Fail> {
     for (place, turns) in guests().iter().enumerate() {
         let wrong = first_wrong_call(rt.alloc(), turns)?;
+        assert_eq!(rt; wrong, None, "{}", place);
+    }
+    Ok(())
+}
+
+#[test]
+fn managers_go_as_they_were_worked_out(rt: HostRuntime) -> Result<(), Fail> {
+    for (place, &(held, entry, image, turns)) in managers().iter().enumerate() {
+        let calls = image_of(rt.alloc(), turns)?;
+        let words = if image.is_empty() {
+            calls.as_slice()
+        } else {
+            image
+        };
+        let wrong = first_wrong_turn(rt.alloc(), &manager(held, entry, words), turns)?;
         assert_eq!(rt; wrong, None, "{}", place);
     }
     Ok(())

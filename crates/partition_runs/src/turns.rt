@@ -25,6 +25,10 @@ pub enum Turn {
     Call(u32, [u32; 4], u32, &'static [u32]),
     /// A doorbell send on this handle, its status, and the handle whose doorbell then rang.
     Send(u32, u32, Option<u32>),
+    /// A call by its token and r3 to r6, what r3 holds behind it, and what it does to a partition.
+    Commands(u32, [u32; 4], u32, Command),
+    /// A step that does this to a partition.
+    Does(Command),
     /// A step that isn't built.
     NotBuilt,
     /// A step that ends the machine.
@@ -35,8 +39,27 @@ pub enum Turn {
     Give(&'static [u8]),
     /// Another partition stores in this range, by its extent, its offset there and its length.
     Stored(u32, u32, u32),
+    /// Its manager starts it at this entry, and has its memory loaded anew or not.
+    Started(u32, bool),
+    /// Its manager stops it.
+    Stopped,
+    /// Its manager restarts it.
+    Restarted,
+    /// The partition of handle 4 runs now, or doesn't.
+    Told(bool),
     /// Nothing, but this is seen.
     See(Seen),
+}
+
+/// What a step does to the caller's own partition, or to the one of a handle.
+#[derive(Clone, Copy, PartialEq, Eq)]
+pub enum Command {
+    /// By its handle, its entry, and whether its memory is loaded anew.
+    Start(u32, u32, bool),
+    Stop(u32),
+    Restart(u32),
+    SelfStop,
+    SelfRestart,
 }
 
 /// What is seen.
@@ -48,8 +71,12 @@ pub enum Seen {
     Clocks(u64, u32, bool),
     /// The steps, which are the time base too, and the PC.
     At(u64, u32),
+    /// The steps and the PC of a manager that begins anew: all else of its registers is as at first, the time base too.
+    Fresh(u64, u32),
     /// The steps.
     Steps(u64),
+    /// The idle flag.
+    Idle(bool),
     Esr(u32),
     Msr(u32),
     Is(State),
@@ -63,27 +90,34 @@ pub enum Seen {
 const DOORBELL_SEND: u32 = 0x1_000E;
 
 /// How many instructions a call takes.
-const CALL_LEN: u64 = 7;
+const CALL_LEN: u64 = 11;
 
 /// The instructions of a call.
-fn call_words(token: u32, args: [u32; 4]) -> [u32; 7] {
+fn call_words(token: u32, args: [u32; 4]) -> [u32; 11] {
     [
         0x3D60_0000 | token >> 16, // lis r11, and so on
         0x616B_0000 | token & 0xFFFF, // ori r11,r11
-        0x3860_0000 | args[0], // li r3
-        0x3880_0000 | args[1], // li r4
-        0x38A0_0000 | args[2], // li r5
-        0x38C0_0000 | args[3], // li r6
+        0x3C60_0000 | args[0] >> 16, // lis r3
+        0x6063_0000 | args[0] & 0xFFFF, // ori r3,r3
+        0x3C80_0000 | args[1] >> 16, // lis r4
+        0x6084_0000 | args[1] & 0xFFFF, // ori r4,r4
+        0x3CA0_0000 | args[2] >> 16, // lis r5
+        0x60A5_0000 | args[2] & 0xFFFF, // ori r5,r5
+        0x3CC0_0000 | args[3] >> 16, // lis r6
+        0x60C6_0000 | args[3] & 0xFFFF, // ori r6,r6
         0x4400_0022, // sc 1
     ]
 }
 
 /// The image of a guest that makes these calls.
-fn image_of(alloc: Global, turns: &[Turn]) -> Result<Vec<u32>, AllocError> {
+pub fn image_of(alloc: Global, turns: &[Turn]) -> Result<Vec<u32>, AllocError> {
     let mut image = Vec::new(alloc);
     for turn in turns {
         match *turn {
             Turn::Call(token, args, _, _) => {
+                image.extend_from_slice(&call_words(token, args))?;
+            }
+            Turn::Commands(token, args, _, _) => {
                 image.extend_from_slice(&call_words(token, args))?;
             }
             Turn::Send(handle, _, _) => {
@@ -168,6 +202,66 @@ fn answers(
     Ok(rang == rings && regs.gpr(3) == status && are_told(regs, values))
 }
 
+/// What an act does to a partition.
+fn command_of(act: &Act) -> Option<Command> {
+    match act {
+        Act::Start { h, entry, load } => Some(Command::Start(*h, *entry, *load)),
+        Act::Stop { h } => Some(Command::Stop(*h)),
+        Act::Restart { h } => Some(Command::Restart(*h)),
+        Act::SelfStop => Some(Command::SelfStop),
+        Act::SelfRestart => Some(Command::SelfRestart),
+        _ => None,
+    }
+}
+
+/// Whether a step does this.
+fn does(machine: &mut LoneMachine, command: Command) -> Result<bool, Fail> {
+    let acts = step(machine, 0)?;
+    Ok(command_of(&acts.act) == Some(command))
+}
+
+/// Whether a call does this, and leaves this in r3.
+fn commands(
+    alloc: Global,
+    machine: &mut LoneMachine,
+    left: u32,
+    command: Command,
+) -> Result<bool, Fail> {
+    quiet_steps(alloc, machine, CALL_LEN - 1)?;
+    let done = does(machine, command)?;
+    let regs = registers_of(machine)?;
+    Ok(done && regs.gpr(3) == left)
+}
+
+/// What a general register of a manager begins with.
+fn fresh_value(number: u8) -> u32 {
+    match number {
+        3 => TREE_AT,
+        6 => 0x4550_4150, // "EPAP"
+        7 => 0x0400_0000, // the area that is mapped
+        _ => 0,
+    }
+}
+
+/// Whether each general register is as a manager's begins.
+fn are_fresh(regs: &Regs) -> bool {
+    for number in 0..32u8 {
+        if regs.gpr(number) != fresh_value(number) {
+            return false;
+        }
+    }
+    true
+}
+
+/// Whether all registers but the PC are so.
+fn begins(regs: &Regs) -> bool {
+    are_fresh(regs)
+        && (regs.time(), regs.dec(), regs.tsr(), regs.esr()) == (0, 0, 0, 0)
+        && regs.msr() == 0x1000_0000
+        && !regs.idle()
+        && regs.reserved().is_none()
+}
+
 /// Whether a machine shows this.
 fn shows(machine: &LoneMachine, seen: Seen) -> Result<bool, Fail> {
     let regs = registers_of(machine)?;
@@ -180,7 +274,9 @@ fn shows(machine: &LoneMachine, seen: Seen) -> Result<bool, Fail> {
                 && regs.idle() == idle
         }
         Seen::At(at, pc) => (steps, regs.time(), regs.pc()) == (at, at, pc),
+        Seen::Fresh(at, pc) => (steps, regs.pc()) == (at, pc) && begins(regs),
         Seen::Steps(at) => steps == at,
+        Seen::Idle(idle) => regs.idle() == idle,
         Seen::Esr(esr) => regs.esr() == esr,
         Seen::Msr(msr) => regs.msr() == msr,
         Seen::Is(state) => machine.state() == state,
@@ -198,6 +294,16 @@ fn comes(machine: &mut LoneMachine, turn: Turn) -> bool {
             machine.written(&[Wrote { extent, at, len }]);
             true
         }
+        Turn::Started(entry, load) => try_start(machine, entry, load).is_some(),
+        Turn::Stopped => {
+            machine.stop();
+            true
+        }
+        Turn::Restarted => {
+            machine.restart();
+            true
+        }
+        Turn::Told(runs) => try_tell(machine, runs).is_some(),
         _ => false,
     }
 }
@@ -212,6 +318,8 @@ fn goes_right(alloc: Global, machine: &mut LoneMachine, turn: Turn) -> Result<bo
         Turn::Floods(times) => floods(alloc, machine, times),
         Turn::Call(_, _, status, values) => answers(alloc, machine, status, values, None),
         Turn::Send(_, status, rings) => answers(alloc, machine, status, &[], rings),
+        Turn::Commands(_, _, left, command) => commands(alloc, machine, left, command),
+        Turn::Does(command) => does(machine, command),
         Turn::NotBuilt => Ok(matches!(step(machine, 0)?.act, Act::NotBuilt)),
         Turn::Faults => Ok(matches!(step(machine, 0)?.act, Act::Faulted)),
         Turn::See(seen) => shows(machine, seen),
