@@ -38,7 +38,7 @@ const NONE: u32 = 0xFFFF;
 /// they are those of its turns' calls, and its turns. A call takes 11 steps and 44 bytes.
 pub type Run = (bool, u32, &'static [u32], &'static [Turn]);
 
-static MANAGERS: [Run; 17] = [
+static MANAGERS: [Run; 18] = [
     // the status of a managed partition, of oneself, and of what is no partition
     (
         false,
@@ -170,7 +170,8 @@ static MANAGERS: [Run; 17] = [
         ],
     ),
     // One that restarts itself has its private memory as at first, the shared word that it stored, no received byte, the two
-    // bytes outstanding that it sent, and all masked. It counts on from 31 steps, and its time begins again.
+    // bytes outstanding that it sent, and all masked. It counts on from 31 steps, and its time begins again. A start that loads
+    // keeps as much.
     (
         false,
         32,
@@ -212,6 +213,10 @@ static MANAGERS: [Run; 17] = [
                 (24, 254),
                 (25, 1),
             ])),
+            Started(32, true),
+            Quiet(14),
+            See(Steps(59)),
+            See(Registers(&[(21, 0x55), (24, 254)])),
         ],
     ),
     // A restart by the manager, in the service of interrupt 2, whose doorbell has rung again: it is masked again, and neither
@@ -247,6 +252,19 @@ static MANAGERS: [Run; 17] = [
             Quiet(2),
             Shares(2, &STORE),
             See(Registers(&[(6, KEPT)])),
+        ],
+    ),
+    // a restart keeps what is known of the managed partition, and the first call comes again
+    (
+        false,
+        0,
+        &[],
+        &[
+            Call(GET_STATUS, [4, 0, 0, 0], 0, &[1]),
+            Told(false),
+            Restarted,
+            See(Fresh(11, 0)),
+            Call(GET_STATUS, [4, 0, 0, 0], 0, &[0]),
         ],
     ),
     // A restart ends a wait, and drops a ring and three bytes; then the core waits until a ring of step 11.

@@ -71,7 +71,8 @@ pub enum Seen {
     Clocks(u64, u32, bool),
     /// The steps, which are the time base too, and the PC.
     At(u64, u32),
-    /// The steps and the PC of a manager that begins anew: all else of its registers is as at first, the time base too.
+    /// The steps, and the PC of a manager that begins there: what else a run changes of its registers is as at first, the time
+    /// base too.
     Fresh(u64, u32),
     /// The steps.
     Steps(u64),
@@ -114,10 +115,7 @@ pub fn image_of(alloc: Global, turns: &[Turn]) -> Result<Vec<u32>, AllocError> {
     let mut image = Vec::new(alloc);
     for turn in turns {
         match *turn {
-            Turn::Call(token, args, _, _) => {
-                image.extend_from_slice(&call_words(token, args))?;
-            }
-            Turn::Commands(token, args, _, _) => {
+            Turn::Call(token, args, _, _) | Turn::Commands(token, args, _, _) => {
                 image.extend_from_slice(&call_words(token, args))?;
             }
             Turn::Send(handle, _, _) => {
@@ -253,7 +251,7 @@ fn are_fresh(regs: &Regs) -> bool {
     true
 }
 
-/// Whether all registers but the PC are so.
+/// Whether those are so, and with them the clocks, the syndrome, the machine state, the idle flag and the reservation.
 fn begins(regs: &Regs) -> bool {
     are_fresh(regs)
         && (regs.time(), regs.dec(), regs.tsr(), regs.esr()) == (0, 0, 0, 0)
