@@ -29,14 +29,14 @@ private_image : (image : List ℕ) → length image ≤ 65536 → is_private_ran
 unfolding is_private_range
 private_image image fits = all_private (length image) 0 (omega (arith, fits))
 
-pub built_in_is_sound : (image : List ℕ) → length image ≤ 65536 → IsSound (built_in image)
+built-in-is-sound : (image : List ℕ) → length image ≤ 65536 → IsSound (built_in image)
 unfolding built_in is_sound are_regions_sound are_counts_kept are_numbered is_start_mapped are_spin_entries_private
-built_in_is_sound image fits = and_from _ _ refl (and_from _ _ (private_image image fits) refl)
+built-in-is-sound image fits = and_from _ _ refl (and_from _ _ (private_image image fits) refl)
 
 pub built_in_is_joined : (image : List ℕ) → length image ≤ 65536 → AreJoined (built_in image ∷ []) built_in_wiring
 unfolding are_joined are_cores_apart are_extents_sound are_regions_joined is_region_joined are_links_joined ends_at ends_at_console are_bells_joined are_managers_joined are_ports_joined is_port_joined built_in built_in_wiring
 built_in_is_joined image fits =
-    let sound : list_all is_sound (built_in image ∷ []) ≡ true = and_from (is_sound (built_in image)) true (built_in_is_sound image fits) refl in
+    let sound : list_all is_sound (built_in image ∷ []) ≡ true = and_from (is_sound (built_in image)) true (built-in-is-sound image fits) refl in
     and_from _ _ (and_from _ _ (and_from _ _ (and_from _ _ (and_from _ _ (and_from _ _ (and_from _ _ (and_from _ _ refl sound) refl) refl) refl) refl) refl) refl) refl
 
 one-core : (image : List ℕ) (part : ℕ) → part < 1 → length (slice_index_or (built_in image ∷ []) part no_desc).cores ≡ 1

@@ -1,9 +1,8 @@
 -- A run that is done went through all its files, and its text is the report.
-use Rattle.std.proofs.Common.{◌≡◌, ℕ, Bool, true, false, nat_lt, List, [], ◌∷◌, ◌++◌, length, map, codes, Option, None, Some, refl, sym, ap, subst, ◌∙◌}
+use Rattle.std.proofs.Common.{◌≡◌, ℕ, Bool, true, false, nat_lt, List, [], ◌∷◌, ◌++◌, length, codes, Option, None, Some, refl, sym, ap, ◌∙◌}
 use Rattle.std.specs.Prelude.{unwrap_or, if◌then◌else◌}
 use Rattle.std.specs.Option.{option_or}
 use Rattle.std.proofs.lemmas.List.{append_assoc, append-nil}
-use Rattle.dt_model.specs.Fault.{first_fault as blob_fault}
 use Rattle.outside.specs.Limit.{file_limit}
 use Rattle.outside.specs.Content.{Content, file_of}
 use Rattle.hv_config.specs.declared.config.PartDef.{PartDef}
@@ -23,12 +22,12 @@ use Rattle.hv_config.specs.Plain.{IsPlain}
 use Rattle.script.specs.Text.{lines_of as lines_in}
 use Rattle.script.specs.Fault.{Broken, first_broken as first_broken_line}
 use Rattle.topaz_run.specs.declared.setup.Setup.{Setup}
-use Rattle.topaz_run.specs.Plan.{Outcome, Done, Refused, Lacking, Plan, Ends, opened, refusal, outcome_of}
+use Rattle.topaz_run.specs.Plan.{Outcome, Done, Plan, opened, refusal, outcome_of}
 use Rattle.topaz_run.specs.Imaging.{imaging, completed, completing, describing, image_fault}
-use Rattle.topaz_run.specs.Reported.{ended_by, written_of, reported}
-use Rattle.topaz_run.specs.Outcome.{flawed, ruled, equipped, equipping, configured, accepting, following, reporting, names_for, network_for, scripted, imaged, running}
+use Rattle.topaz_run.specs.Reported.{ended_by, reported}
+use Rattle.topaz_run.specs.Outcome.{ruled, equipped, configured, accepting, following, reporting, names_for, scripted, imaged, running}
 use Rattle.topaz_run.specs.Runs.{bytes_in, setup_in, descs_in, network_in, script_in, IsReport}
-use Rattle.topaz_run.specs.Laws.{AreDescribed, IsDescribed, DescribedAreNamed}
+use Rattle.topaz_run.specs.Laws.{AreDescribed, DescribedAreNamed}
 
 -- ---- a file
 

@@ -1,6 +1,5 @@
 pub mod Choices
 pub mod Plans
-pub mod Lines
 pub mod Spellings
 pub mod BuiltIns
 pub mod Blobs

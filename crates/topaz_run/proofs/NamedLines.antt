@@ -1,5 +1,5 @@
 -- The names of described partitions and of consoles are words, and no line of the program is taken for a partition's.
-use Rattle.std.proofs.Common.{◌≡◌, ℕ, zero, suc, ◌<◌, ◌≤◌, Bool, true, false, ◌&&◌, ◌||◌, not, List, [], ◌∷◌, ◌++◌, length, map, Option, None, Some, refl, sym, ap, subst, ◌∙◌, arith}
+use Rattle.std.proofs.Common.{◌≡◌, ℕ, Bool, true, false, ◌&&◌, ◌||◌, not, List, [], ◌∷◌, ◌++◌, length, map, None, Some, refl, sym, ap, subst, ◌∙◌, arith}
 use Rattle.std.specs.Prelude.{codes, bytes_eq, nat_le, ◌==◌}
 use Rattle.std.specs.List.{list_all, list_any, filter_map, cons_option}
 use Rattle.std.specs.Option.{option_map_or}
@@ -15,12 +15,11 @@ use Rattle.dt_model.specs.Value.{is_text}
 use Rattle.dt_model.specs.Kept.{are_apart}
 use Rattle.machine_desc.specs.declared.desc.Desc.{Desc}
 use Rattle.machine_desc.specs.Ranges.{none_meets}
-use Rattle.config_checks.specs.Names.{is_reserved}
 use Rattle.config_checks.specs.Channels.{is_console_char}
 use Rattle.config_descs.specs.Desc.{desc_of}
 use Rattle.config_descs.specs.Wired.{wiring_of}
 use Rattle.config_rules.specs.Accepted.{IsAccepted}
-use Rattle.config_rules.specs.Names.{KeepsNames, is_free_name, has_plain_console}
+use Rattle.config_rules.specs.Names.{is_free_name, has_plain_console}
 use Rattle.config_rules.specs.Laws.{AcceptedKeepNames}
 use Rattle.fresh_load.specs.Described.{described}
 use Rattle.network.specs.Laws.{IsNamed, is_plain, is_word, is_taken, is_name, have_name}

@@ -5,7 +5,7 @@ use Rattle.network.specs.Network.{Network}
 use Rattle.network.specs.World.{World, Passage}
 use Rattle.network.specs.Turn.{Script, given_at, run}
 use Rattle.network.specs.Report.{act_lines, end_lines, last_lines, step_place, text_of}
-use Rattle.topaz_run.specs.Plan.{Outcome, Done, Refused}
+use Rattle.topaz_run.specs.Plan.{Done, Refused}
 use Rattle.topaz_run.specs.declared.status.Stop.{Stop}
 use Rattle.topaz_run.specs.declared.status.Stop.TheVariants.{NoMemory as no_memory}
 use Rattle.topaz_run.specs.Answers.{Stops, Meets}

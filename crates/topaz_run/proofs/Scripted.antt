@@ -1,5 +1,5 @@
 -- The report of a run on a script, and the refusal of a script.
-use Rattle.std.proofs.Common.{◌≡◌, ℕ, List, map, Option, Some, None, Result, sym, ap, subst, ◌∙◌}
+use Rattle.std.proofs.Common.{◌≡◌, ℕ, List, map, Option, None, Result, sym, ap, subst, ◌∙◌}
 use Rattle.hv_config.specs.declared.board.Cpu.{Cpu}
 use Rattle.machine_desc.specs.declared.desc.Desc.{Desc}
 use Rattle.machine_desc.specs.declared.wiring.Wiring.{Wiring}

@@ -1,5 +1,5 @@
 -- What the words mean over what the files contain, and which files they need.
-use Rattle.std.specs.Prelude.{ℕ, List, [], ◌∷◌, ◌++◌, map, Option, None, Some, Bool, nat_lt, length, codes, decimal, if◌then◌else◌}
+use Rattle.std.specs.Prelude.{ℕ, List, [], ◌∷◌, ◌++◌, map, Option, None, Some, nat_lt, length, codes, decimal, if◌then◌else◌}
 use Rattle.dt_model.specs.Fault.{first_fault}
 use Rattle.dt_model.specs.Canonical.{rewritten, most_bytes}
 use Rattle.outside.specs.Content.{Content}

@@ -44,6 +44,7 @@ fn run_image(alloc: Global, name: &str, image: &[u8], turns: u64) -> Result<Byte
     let names = names(alloc)?;
     match Script::read(alloc, b"", &names) {
         Ok(script) => report(alloc, descs.into_vec(), wiring, &script, turns),
+        // No line of an empty script breaks a rule.
         Err(_fault) => Err(Stop::NoMemory),
     }
 }

@@ -1,7 +1,6 @@
 //! The built-in machine.
 
-ghost use Rattle.std.specs.Prelude.{◌≡◌, ◌≤◌, true, [], ◌∷◌, length, IfOk};
-ghost use Rattle.machine_desc.specs.Sound.{IsSound};
+ghost use Rattle.std.specs.Prelude.{◌≡◌, ◌≤◌, [], ◌∷◌, length, IfOk};
 ghost use Rattle.topaz_run.specs.BuiltIn as spec;
 
 use machine_desc::{Desc, End, Link, Piece, Port, PortRef, Region, Wiring};
@@ -22,13 +21,10 @@ pub fn one<T: Drop>(alloc: Global, item: T) -> Result<Listed<T>, NoMemory>
 }
 
 /// Its description with an image, which fits the memory.
-#[tactic(auto, using(crate::proofs::BuiltIns::built_in_is_sound), unfolding(crate::specs::BuiltIn::built_in))]
+#[tactic(auto, unfolding(crate::specs::BuiltIn::built_in))]
 pub fn description(alloc: Global, image: &[u8]) -> Result<Desc, NoMemory>
     requires { length image.now ≤ spec.memory_size }
-    ensures value { IfOk result (λ desc. desc ≡ spec.built_in image.now) }
-    ensures sound { IfOk result (λ desc. IsSound desc) }
-    ensures core { IfOk result (λ desc. length desc.cores ≡ 1) }
-    ensures regions { IfOk result (λ desc. desc.regions ≡ spec.built_in_region ∷ []) }
+    ensures { IfOk result (λ desc. desc ≡ spec.built_in image.now) }
 {
     let region = Region {
         logical: 0,
@@ -58,8 +54,7 @@ pub fn description(alloc: Global, image: &[u8]) -> Result<Desc, NoMemory>
 /// What its channel leads to.
 #[tactic(auto, unfolding(crate::specs::BuiltIn::built_in_wiring))]
 pub fn wiring(alloc: Global) -> Result<Wiring, NoMemory>
-    ensures value { IfOk result (λ wiring. wiring ≡ spec.built_in_wiring) }
-    ensures sizes { IfOk result (λ wiring. wiring.sizes ≡ spec.memory_size ∷ []) }
+    ensures { IfOk result (λ wiring. wiring ≡ spec.built_in_wiring) }
 {
     let link = Link {
         a: End::Part(PortRef { part: 0, handle: 1 }),

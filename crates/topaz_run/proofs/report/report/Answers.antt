@@ -1,4 +1,4 @@
-use Rattle.std.proofs.Common.{◌≡◌, sym, ap, subst, ◌∙◌}
+use Rattle.std.proofs.Common.{sym, ap, subst, ◌∙◌}
 use Rattle.network.specs.Network.{Network}
 use Rattle.network.specs.Turn.{run}
 use Rattle.network.specs.Report.{act_lines}

@@ -1,6 +1,6 @@
-use Rattle.std.proofs.Common.{◌≡◌, ℕ, List, [], sym, ap, ◌∙◌, arith}
+use Rattle.std.proofs.Common.{◌≡◌, [], sym, ap, ◌∙◌}
 use Rattle.network.specs.World.{World, Passage}
-use Rattle.network.specs.Entering.{enter, waiting}
+use Rattle.network.specs.Entering.{waiting}
 use Rattle.network.specs.Turn.{given_at}
 use Rattle.network.proofs.Resting.{nothing-enters}
 use Rattle.topaz_run.specs.Reported.{given_by}

@@ -1,4 +1,4 @@
-use Rattle.std.proofs.Common.{◌≡◌, ℕ, [], sym, ◌∙◌, arith}
+use Rattle.std.proofs.Common.{◌≡◌, [], sym, ◌∙◌, arith}
 use Rattle.network.specs.Entering.{waiting}
 use Rattle.network.specs.Turn.{given_at}
 use Rattle.topaz_run.specs.Reported.{given_by}
