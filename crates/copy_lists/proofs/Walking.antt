@@ -3,7 +3,7 @@ use Rattle.std.proofs.Common.{◌≡◌, ℕ, ◌+◌, ◌-◌, ◌<◌, ◌≤�
 use Rattle.std.specs.Prelude.{find}
 use Rattle.std.specs.List.{list_all, range_with_len}
 use Rattle.std.specs.Option.{option_map}
-use Rattle.std.proofs.lemmas.Bool.{or_true}
+use Rattle.std.proofs.lemmas.Bool.{or_right}
 use Rattle.machine_desc.specs.declared.desc.Span.{Span}
 use Rattle.machine_desc.proofs.Walking.{empty_behind, one_more, skipped}
 use Rattle.copy_lists.specs.Spans.{span_end, has_address, is_spanned, is_in_spans}
@@ -26,7 +26,7 @@ found (span ∷ spans) address behind e =
         subst (λ (m : ℕ). address < m) same (has_before span address t),
         λ later low high. rw (has_along span address later t low (subst (λ (m : ℕ). later < m) (sym same) high)) refl,
       )
-      | false ↦ λ t e. let below = found spans address behind e in (below.0, λ later low high. rw (below.1 later low high) (or_true _))
+      | false ↦ λ t e. let below = found spans address behind e in (below.0, λ later low high. or_right _ _ (below.1 later low high))
     ] refl e
 
 none : (spans : List Span) (address : ℕ) → option_map span_end (find (has_address address) spans) ≡ None → is_spanned spans address ≡ false

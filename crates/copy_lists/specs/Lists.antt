@@ -96,7 +96,7 @@ abbrev pub target_private : Bool → (ℕ → ℕ → Bool) → (ℕ → ℕ →
 target_private to_managed own managed at size = if to_managed then managed at size else own at size
 
 -- each entry copies private bytes to private ones
-abbrev pub are_entries_private : Bool → (ℕ → ℕ → Bool) → (ℕ → ℕ → Bool) → List SgEntry → Bool
+unfoldable pub are_entries_private : Bool → (ℕ → ℕ → Bool) → (ℕ → ℕ → Bool) → List SgEntry → Bool
 are_entries_private to_managed own managed entries = list_all (is_entry_private (source_private to_managed own managed) (target_private to_managed own managed)) entries
 
 -- what is decided of entries that were read

@@ -1,6 +1,6 @@
 //! Whether a copy goes, or by which status it is refused.
 
-ghost use Rattle.std.specs.Prelude.{◌≡◌, ◌-◌, ◌^◌, min};
+ghost use Rattle.std.specs.Prelude.{◌≡◌, ◌-◌, ◌^◌, min, nat_lt};
 ghost use Rattle.machine_desc.specs.Private.{is_private_range};
 ghost use Rattle.machine_desc.specs.Sound.{IsSound};
 ghost use Rattle.fresh_load.specs.Placed.{ArePlaced};
@@ -44,6 +44,14 @@ fn total(entries: &[SgEntry]) -> u64
     bytes
 }
 
+/// Whether they copy more bytes than a list may.
+#[tactic(auto, using(crate::proofs::Places::over))]
+fn are_too_many(entries: &[SgEntry]) -> bool
+    ensures { result ≡ nat_lt spec.most_bytes (spec.total entries.now) }
+{
+    total(entries) > MOST_BYTES
+}
+
 /// Whether the entry copies private bytes to private ones, those of the caller by its map and those of the managed
 /// partition by its spans.
 fn is_entry_private(map: &AreaMap, spans: &[Span], to_managed: bool, entry: &SgEntry) -> bool
@@ -62,6 +70,7 @@ fn is_entry_private(map: &AreaMap, spans: &[Span], to_managed: bool, entry: &SgE
 }
 
 /// Whether each of the entries does.
+#[tactic(auto, unfolding(crate::specs::Lists::are_entries_private))]
 fn are_entries_private(map: &AreaMap, spans: &[Span], to_managed: bool, entries: &[SgEntry]) -> bool
     ensures { result ≡ spec.are_entries_private to_managed (is_private_range map.now) (is_in_spans spans.now) entries.now }
 {
@@ -76,7 +85,7 @@ fn decide_entries(entries: &[SgEntry], desc: &Desc, map: &AreaMap, regs: &Regs) 
     ensures { result ≡ spec.entries_decision (spec.is_to_managed regs.now) (is_private_range map.now)
         (is_in_spans (spec.managed_spans desc.now.ports (spec.managed_handle regs.now))) entries.now }
 {
-    if total(entries) > MOST_BYTES {
+    if are_too_many(entries) {
         return refused(Status::InvalidArgument);
     }
     let spans = managed_spans(desc.ports.as_slice(), managed_handle(regs));
@@ -95,6 +104,7 @@ fn read_and_decide(
     ground: &Ground,
     regs: &Regs,
 ) -> Decision
+    requires sound { IsSound desc.now }
     requires map { map.now ≡ desc.now.regions }
     requires placed { ArePlaced ground.now map.now }
     ensures decision { result ≡ spec.copy_decision desc.now.ports regs.now (is_private_range map.now)
