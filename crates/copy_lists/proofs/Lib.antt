@@ -1,2 +1,4 @@
 pub mod Places
+pub mod Putting
+pub mod Runs
 pub mod Walking
