@@ -1,4 +1,5 @@
 pub mod Places
 pub mod Putting
 pub mod Runs
+pub mod Entries
 pub mod Walking

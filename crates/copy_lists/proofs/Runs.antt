@@ -257,10 +257,10 @@ run_copied from to memory source target count read write fit h e f one other =
 -- ---- an entry, run after run
 
 -- the next run
-pub more_copied : (from to : List Region) (memory after : List (List ℕ)) (source target size done count : ℕ) → AreasFit from to memory → is_private_range from (source + done) count ≡ true
+pub more_copied : (from to : List Region) (memory after : List (List ℕ)) (source target done count : ℕ) → AreasFit from to memory → is_private_range from (source + done) count ≡ true
     → after ≡ put to memory target (bytes_in from memory source done)
     → put to after (target + done) (bytes_in from after (source + done) count) ≡ put to memory target (bytes_in from memory source (done + count))
-more_copied from to memory after source target size done count fit h e =
+more_copied from to memory after source target done count fit h e =
     let first : List ℕ = bytes_in from memory source done in
     let second : List ℕ = bytes_in from memory (source + done) count in
     let long : length first ≡ done = length-map-range_with_len (byte_in from memory) source done in

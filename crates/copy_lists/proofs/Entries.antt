@@ -1,0 +1,54 @@
+-- Entries copied one after another.
+use Rattle.std.proofs.Common.{◌≡◌, ℕ, ◌+◌, ◌<◌, Bool, true, false, ◌||◌, ◌&&◌, ◌==◌, List, length, get_or, drop, refl, sym, ap, subst, ◌∙◌, arith}
+use Rattle.std.proofs.lemmas.Bool.{and_parts, eqb-true}
+use Rattle.std.proofs.lemmas.Option.{slice_get-get_or}
+use Rattle.std.proofs.lemmas.List.{at_drop_more}
+use Rattle.machine_desc.specs.declared.desc.Region.{Region}
+use Rattle.machine_desc.specs.Private.{is_private_range}
+use Rattle.memory_areas.proofs.Found.{all_at}
+use Rattle.ground.specs.Extents.{extent_at}
+use Rattle.fresh_load.specs.Placed.{is_private_extent, sizes_of}
+use Rattle.copy_lists.specs.declared.list.SgEntry.{SgEntry}
+use Rattle.copy_lists.specs.Lists.{is_entry_private}
+use Rattle.copy_lists.specs.Moving.{bytes_in, entry_copied, copied, AreCopiable}
+use Rattle.copy_lists.proofs.Putting.{put_sizes, put_others}
+
+-- a range without bytes is private
+none_private : (regions : List Region) (at size : ℕ) → size ≡ 0 → is_private_range regions at size ≡ true
+unfolding is_private_range
+none_private regions at size none = rw none refl
+
+-- both ranges of an entry are private
+both_private : (from to : List Region) (entry : SgEntry) → is_entry_private (is_private_range from) (is_private_range to) entry ≡ true
+    → (is_private_range from entry.source entry.size ≡ true) × (is_private_range to entry.target entry.size ≡ true)
+both_private from to entry h =
+    elim (entry.size == 0) as (λ b. (entry.size == 0) ≡ b → (b || (is_private_range from entry.source entry.size && is_private_range to entry.target entry.size)) ≡ true
+    → (is_private_range from entry.source entry.size ≡ true) × (is_private_range to entry.target entry.size ≡ true)) [
+      | true ↦ λ t h. let none : entry.size ≡ 0 = eqb-true entry.size 0 t in (none_private from entry.source entry.size none, none_private to entry.target entry.size none)
+      | false ↦ λ t h. and_parts _ _ h
+    ] refl h
+
+pub entry_private : (from to : List Region) (entries items : List SgEntry) (i : ℕ) (d : SgEntry) → items ≡ entries → AreCopiable from to entries → i < length entries
+    → (is_private_range from (get_or items i d).source (get_or items i d).size ≡ true) × (is_private_range to (get_or items i d).target (get_or items i d).size ≡ true)
+entry_private from to entries items i d same h below =
+    subst
+    (λ (all : List SgEntry). (is_private_range from (get_or all i d).source (get_or all i d).size ≡ true) × (is_private_range to (get_or all i d).target (get_or all i d).size ≡ true))
+    (sym same) (
+      both_private from to (get_or entries i d)
+      (all_at (is_entry_private (is_private_range from) (is_private_range to)) entries i (get_or entries i d) h (slice_get-get_or entries i d below))
+    )
+
+-- the next entry
+pub next_copied : (from to : List Region) (entries items : List SgEntry) (memory after : List (List ℕ)) (i : ℕ) (d : SgEntry) → items ≡ entries → i < length entries
+    → after ≡ entry_copied from to memory (get_or items i d) → copied from to (drop (i + 1) entries) after ≡ copied from to (drop i entries) memory
+next_copied from to entries items memory after i d same below e =
+    ap (copied from to (drop (i + 1) entries)) (e ∙ ap (λ (all : List SgEntry). entry_copied from to memory (get_or all i d)) same)
+    ∙ sym (at_drop_more (λ (left : List SgEntry). copied from to left memory) entries i d below)
+
+pub next_sizes : (from to : List Region) (memory after : List (List ℕ)) (entry : SgEntry) → after ≡ entry_copied from to memory entry → sizes_of after ≡ sizes_of memory
+next_sizes from to memory after entry e = ap sizes_of e ∙ put_sizes to memory entry.target (bytes_in from memory entry.source entry.size)
+
+pub next_others : (from to : List Region) (memory after : List (List ℕ)) (entry : SgEntry) (extent : ℕ) → after ≡ entry_copied from to memory entry → is_private_extent to extent ≡ false
+    → extent_at after extent ≡ extent_at memory extent
+next_others from to memory after entry extent e h =
+    ap (λ (all : List (List ℕ)). extent_at all extent) e ∙ put_others to memory entry.target (bytes_in from memory entry.source entry.size) extent h
