@@ -1,17 +1,17 @@
 -- Where private bytes lie.
-use Rattle.std.proofs.Common.{◌≡◌, ℕ, zero, suc, ◌+◌, ◌-◌, ◌*◌, ◌^◌, ◌<◌, ◌≤◌, min, Bool, true, ltb, leb, List, Some, refl, sym, ap, subst, ◌∙◌, arith, add-zero, length}
-use Rattle.std.specs.List.{list_all, range_with_len, slice_get}
+use Rattle.std.proofs.Common.{◌≡◌, ℕ, zero, suc, ◌+◌, ◌-◌, ◌^◌, ◌<◌, ◌≤◌, min, Bool, true, ltb, leb, List, Some, refl, sym, subst, arith}
+use Rattle.std.specs.List.{list_all, range_with_len}
 use Rattle.std.proofs.lemmas.Bool.{and_parts, and_from, leb-true}
 use Rattle.machine_desc.specs.declared.desc.Region.{Region}
 use Rattle.machine_desc.specs.Limits.{address_end}
 use Rattle.machine_desc.specs.Private.{region_end, is_private_address, is_private_range}
 use Rattle.machine_desc.specs.Sound.{is_within}
 use Rattle.memory_areas.specs.declared.place.Place.{Place}
-use Rattle.memory_areas.specs.Place.{place_in, place_of}
+use Rattle.memory_areas.specs.Place.{place_in}
 use Rattle.memory_areas.specs.Kept.{AreWithin}
 use Rattle.memory_areas.proofs.Found.{all_at, all_in_range}
 use Rattle.memory_areas.proofs.Places.{has_both, places_are_of_regions, private_bytes_are_in_regions}
-use Rattle.ground.specs.Extents.{extent_at, HasRange}
+use Rattle.ground.specs.Extents.{HasRange}
 use Rattle.fresh_load.specs.Placed.{is_placed, ArePlaced}
 use Rattle.fresh_load.proofs.Places.{there}
 use Rattle.copy_lists.specs.Lists.{most_bytes}

@@ -1,12 +1,12 @@
 -- What bytes leave of a memory that are put at logical addresses.
-use Rattle.std.proofs.Common.{◌≡◌, ℕ, zero, suc, ◌+◌, ◌-◌, ◌<◌, ◌≤◌, Bool, true, false, cond, ◌&&◌, ◌||◌, ltb, leb, ◌==◌, List, [], ◌∷◌, ◌++◌, length, map, get_or, take, drop, Option, Some, None, refl, sym, ap, subst, ◌∙◌, ⊎_elim, arith}
-use Rattle.std.specs.List.{list_any, find, slice_get, range_with_len}
-use Rattle.std.proofs.lemmas.Bool.{cases_lt, cond-true, cond-false, and_parts, and_from, and_left, and_right, or_parts, or_left, or_right, le-leb, lt-ltb, lt-leb, le-ltb, eq-eqb, eqb-true}
+use Rattle.std.proofs.Common.{◌≡◌, ℕ, ◌+◌, ◌-◌, ◌<◌, ◌≤◌, Bool, false, cond, ◌&&◌, ltb, leb, ◌==◌, List, [], ◌∷◌, ◌++◌, length, get_or, take, drop, Option, Some, None, refl, sym, ap, ◌∙◌, ⊎_elim, arith}
+use Rattle.std.specs.List.{list_any, find}
+use Rattle.std.proofs.lemmas.Bool.{cases_lt, cond-true, cond-false, and_from, and_left, and_right, or_parts, le-leb, lt-ltb, lt-leb, le-ltb}
 use Rattle.std.proofs.lemmas.Grind.{same_number_lists}
-use Rattle.std.proofs.lemmas.List.{same_lists, length-map, length-take-le, length-drop, length-append, get_or_append_left, get_or-append_right, get_or-take, get_or-drop, get_or_past, get_or_default, get_or-set_same, get_or-set_other, length-set}
+use Rattle.std.proofs.lemmas.List.{same_lists, length-map, length-take-le, length-drop, length-append, get_or_append_left, get_or-append_right, get_or-take, get_or-drop, get_or_past, get_or_default}
 use Rattle.std.proofs.lemmas.List.FromFn.{length-map-range_with_len, get_or-map-range_with_len}
 use Rattle.machine_desc.specs.declared.desc.Region.{Region}
-use Rattle.ground.specs.Extents.{extent_at, written, after_write}
+use Rattle.ground.specs.Extents.{extent_at, written}
 use Rattle.fresh_load.specs.Placed.{sizes_of, is_private_extent}
 use Rattle.fresh_load.proofs.Places.{size_at}
 use Rattle.copy_lists.specs.Moving.{byte_put, extent_put, region_over, put}

@@ -1,6 +1,6 @@
 -- Runs of bytes that lie side by side in an extent, read and written by their logical addresses.
-use Rattle.std.proofs.Common.{◌≡◌, ℕ, zero, suc, ◌+◌, ◌-◌, ◌<◌, ◌≤◌, Bool, true, false, cond, ◌&&◌, ◌||◌, ltb, leb, ◌==◌, List, [], ◌∷◌, ◌++◌, length, map, get_or, take, drop, Option, Some, None, refl, sym, ap, subst, ◌∙◌, ⊎_elim, ◌⊎◌, add-zero, arith}
-use Rattle.std.specs.List.{list_any, find, slice_get, range_with_len}
+use Rattle.std.proofs.Common.{◌≡◌, ℕ, zero, suc, ◌+◌, ◌-◌, ◌<◌, ◌≤◌, Bool, true, false, ◌&&◌, ◌==◌, List, [], ◌∷◌, ◌++◌, length, map, get_or, take, drop, Option, Some, None, refl, sym, ap, subst, ◌∙◌, ⊎_elim, arith}
+use Rattle.std.specs.List.{list_any, slice_get, range_with_len}
 use Rattle.std.specs.Option.{option_map_or}
 use Rattle.std.proofs.lemmas.Bool.{false≢true, cases_lt, cases_eq, and_parts, and_from, or_left, or_right, eq-eqb, eqb-true}
 use Rattle.std.proofs.lemmas.Option.{none-some, same_Some}
@@ -14,15 +14,15 @@ use Rattle.machine_desc.proofs.Apart.{one_place}
 use Rattle.machine_desc.proofs.Parts.{regions_parts}
 use Rattle.memory_areas.specs.declared.place.Place.{Place}
 use Rattle.memory_areas.specs.Laws.{HasIt}
-use Rattle.memory_areas.specs.Place.{has_address, place_of, place_in, place_behind}
+use Rattle.memory_areas.specs.Place.{has_address, place_of, place_in}
 use Rattle.memory_areas.proofs.Found.{all_at, found_at, some_found}
 use Rattle.memory_areas.proofs.Places.{has_both, has_by, one_region_has_it, its_region_gives_the_place, runs_go_on, private_bytes_are_in_regions}
 use Rattle.ground.specs.Extents.{extent_at, bytes_at, written, after_write}
 use Rattle.fresh_load.specs.Placed.{is_placed, ArePlaced, is_private_extent, sizes_of}
 use Rattle.fresh_load.proofs.Places.{there, all_still_placed}
-use Rattle.copy_lists.specs.Moving.{byte_of, byte_in, bytes_in, byte_put, extent_put, region_over, put, AreApart, AreasFit}
+use Rattle.copy_lists.specs.Moving.{byte_of, byte_in, bytes_in, extent_put, region_over, put, AreApart, AreasFit}
 use Rattle.copy_lists.proofs.Places.{run_there}
-use Rattle.copy_lists.proofs.Putting.{put_before, put_behind, extent_out, same_memories, length-put, put_extent, put_sizes, put_others, put_on, written_put}
+use Rattle.copy_lists.proofs.Putting.{put_before, put_behind, extent_out, same_memories, length-put, put_extent, put_others, put_on, written_put}
 
 -- ---- private bytes
 

@@ -1,7 +1,7 @@
-use Rattle.std.proofs.Common.{◌≡◌, ◌+◌, ◌-◌, ◌≤◌, ◌∙◌, sym, ap, subst, arith}
+use Rattle.std.proofs.Common.{◌+◌, ◌-◌, ◌≤◌, ◌∙◌, sym, ap, arith}
 use Rattle.machine_desc.proofs.Parts.{regions_parts}
 use Rattle.fresh_load.specs.Placed.{sizes_of}
-use Rattle.copy_lists.specs.Moving.{put, bytes_in}
+use Rattle.copy_lists.specs.Moving.{bytes_in}
 use Rattle.copy_lists.proofs.Places.{private_below, private_part}
 use Rattle.copy_lists.proofs.Putting.{put_none, put_sizes}
 use Rattle.copy_lists.proofs.Runs.{areas_stay, more_copied}

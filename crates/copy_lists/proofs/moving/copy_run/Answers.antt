@@ -1,4 +1,4 @@
-use Rattle.std.proofs.Common.{◌≡◌, ◌≤◌, sym, ◌∙◌, ap, arith}
+use Rattle.std.proofs.Common.{◌≡◌, sym, ◌∙◌, ap, arith}
 use Rattle.copy_lists.specs.Moving.{put, bytes_in}
 use Rattle.copy_lists.proofs.Places.{run_there}
 use Rattle.copy_lists.proofs.Runs.{held_first, extents_differ, never_none, run_copied}

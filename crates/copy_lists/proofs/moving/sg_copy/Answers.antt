@@ -1,4 +1,4 @@
-use Rattle.std.proofs.Common.{◌≡◌, ◌<◌, ◌∙◌, length, ap, get_or, arith}
+use Rattle.std.proofs.Common.{◌<◌, ◌∙◌, length, ap, get_or, arith}
 use Rattle.copy_lists.specs.declared.list.SgEntry.{SgEntry}
 use Rattle.copy_lists.proofs.Runs.{areas_stay}
 use Rattle.copy_lists.proofs.Entries.{entry_private, next_copied, next_sizes, next_others}
