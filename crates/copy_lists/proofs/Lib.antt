@@ -2,4 +2,5 @@ pub mod Places
 pub mod Putting
 pub mod Runs
 pub mod Entries
+pub mod Meaning
 pub mod Walking

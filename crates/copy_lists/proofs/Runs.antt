@@ -114,7 +114,7 @@ one_extent regions i j region other sound h k same =
     same_there regions i j region other (one_place have_extent regions i j region other (regions_parts regions sound).extents h k to back) h k
 
 -- the private region of an extent is found by it
-over_it : (regions : List Region) (number : ℕ) (region : Region) → are_regions_sound regions ≡ true → slice_get regions number ≡ Some region → region.private ≡ true
+pub over_it : (regions : List Region) (number : ℕ) (region : Region) → are_regions_sound regions ≡ true → slice_get regions number ≡ Some region → region.private ≡ true
     → region_over regions region.extent ≡ Some region
 over_it regions number region sound at private =
     let test : Region → Bool = λ (other : Region). other.private && other.extent == region.extent in

@@ -1,3 +1,4 @@
 pub mod Spans
 pub mod Lists
 pub mod Moving
+pub mod Laws

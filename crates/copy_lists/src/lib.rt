@@ -11,11 +11,13 @@
 
 mod asked;
 mod checking;
+mod laws;
 mod list;
 mod moving;
 mod reading;
 mod spans;
 
 pub use checking::sg_check;
+pub use laws::{bytes_put_are_read, spans_hold_what_is_private, the_source_stays};
 pub use list::{SgEntry, SgList};
 pub use moving::sg_copy;

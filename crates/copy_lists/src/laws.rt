@@ -1,0 +1,18 @@
+//! Laws over the definitions. Each is a function with nothing to do, whose contract is the law.
+
+ghost use Rattle.copy_lists.specs.Laws.{SpansArePrivate, BytesPutAreRead, SourceStays};
+
+/// What a manage handle tells of the memory of its partition is what is private to it.
+pub fn spans_hold_what_is_private()
+    ensures { SpansArePrivate }
+{}
+
+/// Bytes that were put at an address are read there, and no other private byte changes.
+pub fn bytes_put_are_read()
+    ensures { BytesPutAreRead }
+{}
+
+/// A copy never changes what is private to its source.
+pub fn the_source_stays()
+    ensures { SourceStays }
+{}
