@@ -34,8 +34,8 @@ entry_private from to entries items i d same h below =
     subst
     (λ (all : List SgEntry). (is_private_range from (get_or all i d).source (get_or all i d).size ≡ true) × (is_private_range to (get_or all i d).target (get_or all i d).size ≡ true))
     (sym same) (
-      both_private from to (get_or entries i d)
-      (all_at (is_entry_private (is_private_range from) (is_private_range to)) entries i (get_or entries i d) h (slice_get-get_or entries i d below))
+    both_private from to (get_or entries i d)
+    (all_at (is_entry_private (is_private_range from) (is_private_range to)) entries i (get_or entries i d) h (slice_get-get_or entries i d below))
     )
 
 -- the next entry

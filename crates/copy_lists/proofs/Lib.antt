@@ -4,3 +4,4 @@ pub mod Runs
 pub mod Entries
 pub mod Meaning
 pub mod Walking
+mod Sizes

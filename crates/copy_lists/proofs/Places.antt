@@ -55,11 +55,11 @@ all_from test at zero each = refl
 all_from test at (suc size) each =
     let here : at + 0 ≡ at = omega arith in
     and_from _ _ (subst (λ (n : ℕ). test n ≡ true) here (each 0 (omega arith))) (
-      all_from test (at + 1) size (
-        λ more below.
-        let next : at + suc more ≡ (at + 1) + more = omega arith in
-        subst (λ (n : ℕ). test n ≡ true) next (each (suc more) (omega arith))
-      )
+    all_from test (at + 1) size (
+    λ more below.
+    let next : at + suc more ≡ (at + 1) + more = omega arith in
+    subst (λ (n : ℕ). test n ≡ true) next (each (suc more) (omega arith))
+    )
     )
 
 -- a part of a private range is private
@@ -67,7 +67,7 @@ pub private_part : (regions : List Region) (at size done left : ℕ) → is_priv
 unfolding is_private_range
 private_part regions at size done left h fits =
     all_from (is_private_address regions) (at + done) left (
-      λ more below.
-      let same : at + (done + more) ≡ (at + done) + more = omega arith in
-      subst (λ (n : ℕ). is_private_address regions n ≡ true) same (all_in_range (is_private_address regions) size at (done + more) h (omega arith))
+    λ more below.
+    let same : at + (done + more) ≡ (at + done) + more = omega arith in
+    subst (λ (n : ℕ). is_private_address regions n ≡ true) same (all_in_range (is_private_address regions) size at (done + more) h (omega arith))
     )

@@ -177,7 +177,7 @@ put_none regions memory at =
 
 -- ---- one write into a region
 
-length-written : (at : ℕ) (bytes old : List ℕ) → at + length bytes ≤ length old → length (written at bytes old) ≡ length old
+pub length-written : (at : ℕ) (bytes old : List ℕ) → at + length bytes ≤ length old → length (written at bytes old) ≡ length old
 length-written at bytes old h =
     let front : length (take at old) ≡ at = length-take-le at old (omega arith) in
     let back : length (drop (at + length bytes) old) ≡ length old - (at + length bytes) = length-drop (at + length bytes) old in

@@ -21,3 +21,6 @@ pub use checking::sg_check;
 pub use laws::{bytes_put_are_read, spans_hold_what_is_private, the_source_stays};
 pub use list::{SgEntry, SgList};
 pub use moving::sg_copy;
+
+#[cfg(test)]
+mod tests;

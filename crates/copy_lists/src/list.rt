@@ -75,7 +75,7 @@ impl SgList {
     }
 
     /// The entries as a slice.
-    pub fn as_slice(&self) -> &[SgEntry]
+    pub(crate) fn as_slice(&self) -> &[SgEntry]
         ensures { result.now ≡ self.now }
     {
         &self.room[..self.count]
@@ -90,14 +90,14 @@ impl SgList {
     }
 
     /// Leaves no entry.
-    pub fn clear(&mut self)
+    pub(crate) fn clear(&mut self)
         ensures { self.new ≡ [] }
     {
         self.count = 0;
     }
 
     /// The list grows by the entry at its end.
-    pub fn push(&mut self, entry: SgEntry)
+    pub(crate) fn push(&mut self, entry: SgEntry)
         requires { length self.old < most_entries }
         ensures { self.new ≡ self.old ++ entry ∷ [] }
     {

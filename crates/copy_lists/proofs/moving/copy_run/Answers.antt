@@ -30,7 +30,7 @@ returns-in-Some-Some-clause-copied c =
     ∙ ap (λ n. put c.args.to.now c.args.ground.now c.args.target (bytes_in c.args.from.now c.args.ground.now c.args.source n)) (sym same))
 
 pub returns-in_default-clause-copied : goal.returns-in_default-clause-copied
-returns-in_default-clause-copied c = 
+returns-in_default-clause-copied c =
     absurd (never_none c.args.to.now c.args.target c.requires.areas.to_sound (held_first c.args.to.now c.args.target c.args.left c.requires.written c.requires.some) (sym c.find-2.ensures.place ∙ c.in_default.is-1))
 
 pub returns-in_default-2-clause-copied : goal.returns-in_default-2-clause-copied
