@@ -69,7 +69,11 @@ fn copy_entry(ground: &mut Ground, from: &AreaMap, to: &AreaMap, entry: &SgEntry
 /// Copies the entries' bytes, entry after entry, from the private memory of one partition to that of another. Each entry is
 /// read as those before it left the bytes; no byte that is written is read.
 pub fn sg_copy(ground: &mut Ground, from: &AreaMap, to: &AreaMap, list: &SgList)
-    requires areas { spec.AreasFit from.now to.now ground.old }
+    requires from_sound { IsTrue (are_regions_sound from.now) }
+    requires to_sound { IsTrue (are_regions_sound to.now) }
+    requires from_placed { ArePlaced ground.old from.now }
+    requires to_placed { ArePlaced ground.old to.now }
+    requires apart { spec.AreApart from.now to.now }
     requires entries { spec.AreCopiable from.now to.now list.now }
     ensures copied { ground.new ≡ spec.copied from.now to.now list.now ground.old }
     ensures sizes { sizes_of ground.new ≡ sizes_of ground.old }

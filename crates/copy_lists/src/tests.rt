@@ -1,13 +1,12 @@
 //! What the definitions are meant to say: which lists are refused, and where bytes are moved.
 
-ghost use Rattle.std.specs.Prelude.{◌≡◌, ◌∷◌, [], true, IfOk};
-ghost use Rattle.std.specs.List.{list_all, list_any};
+ghost use Rattle.std.specs.Prelude.{◌≡◌, ◌∷◌, [], ◌&&◌, not, IfOk};
+ghost use Rattle.std.specs.List.{list_all};
+ghost use Rattle.machine_desc.specs.declared.desc.Region.{Region as RegionValue};
 ghost use Rattle.machine_desc.specs.Private.{is_private_range};
 ghost use Rattle.ground.specs.Extents.{AreSmall};
 ghost use Rattle.fresh_load.specs.Placed.{is_placed, is_private_extent, sizes_of};
 ghost use Rattle.copy_lists.specs.Lists.{is_entry_private};
-ghost use Rattle.copy_lists.specs.Moving.{AreApart, AreCopiable, AreasFit};
-ghost use Rattle.copy_lists.proofs.Sizes.{is_apart};
 
 use super::*;
 use ground::Ground;
@@ -344,14 +343,14 @@ fn is_private_extent(regions: &[Region], extent: u32) -> bool
 
 /// Whether the region shares no private extent.
 fn is_apart(to: &[Region], region: &Region) -> bool
-    ensures { result ≡ is_apart to.now region.now }
+    ensures { result ≡ not (region.now.private && is_private_extent to.now region.now.extent) }
 {
     !(region.private && is_private_extent(to, region.extent))
 }
 
 /// Whether none of the regions does.
 fn are_apart(from: &[Region], to: &[Region]) -> bool
-    ensures { result ≡ list_all (is_apart to.now) from.now }
+    ensures { result ≡ list_all (λ (region : RegionValue). not (region.private && is_private_extent to.now region.extent)) from.now }
 {
     from.iter().all(|region| is_apart(to, region))
 }
@@ -408,11 +407,10 @@ fn list_of(alloc: Global, entries: &[SgEntry]) -> Result<SgList, NoMemory> {
     Ok(other)
 }
 
-#[test]
-fn bytes_are_moved(rt: HostRuntime) -> Result<(), Fail> {
-    let alloc = rt.alloc();
-    let own = desc_of(alloc, &own_regions(), ports(alloc)?)?;
-    let managed = desc_of(alloc, &managed_regions(), Listed::new(alloc))?;
+/// Memory with a few bytes at the edges of the caller's regions.
+fn given(alloc: Global) -> Result<Ground, NoMemory>
+    ensures { IfOk result (λ memory. sizes_of memory ≡ 1048576 ∷ 4096 ∷ 1048576 ∷ 4096 ∷ 4096 ∷ []) }
+{
     let mut memory = zeros(alloc, &SIZES)?;
     for (extent, at, byte) in [
         (0, 0xf_fffd, 1),
@@ -426,6 +424,15 @@ fn bytes_are_moved(rt: HostRuntime) -> Result<(), Fail> {
     ] {
         store(&mut memory, &SIZES, extent, at, byte);
     }
+    Ok(memory)
+}
+
+#[test]
+fn bytes_are_moved(rt: HostRuntime) -> Result<(), Fail> {
+    let alloc = rt.alloc();
+    let own = desc_of(alloc, &own_regions(), ports(alloc)?)?;
+    let managed = desc_of(alloc, &managed_regions(), Listed::new(alloc))?;
+    let mut memory = given(alloc)?;
     let entries = [
         // over the edges of both sides' regions, each at another byte
         SgEntry {

@@ -8,7 +8,14 @@ abbrev nothing : SgEntry
 nothing = record { source = 0; target = 0; size = 0 }
 
 pub copy_entry-requires-clause-areas : goal.copy_entry-requires-clause-areas
-copy_entry-requires-clause-areas c = areas_stay c.args.from.now c.args.to.now c.args.ground.now c.loop-entry.ground c.loop-entry.invariant.sizes c.requires.areas
+copy_entry-requires-clause-areas c =
+    areas_stay c.args.from.now c.args.to.now c.args.ground.now c.loop-entry.ground c.loop-entry.invariant.sizes (record {
+      from_sound = c.requires.from_sound;
+      to_sound = c.requires.to_sound;
+      from_placed = c.requires.from_placed;
+      to_placed = c.requires.to_placed;
+      apart = c.requires.apart;
+    })
 
 pub copy_entry-requires-clause-read : goal.copy_entry-requires-clause-read
 copy_entry-requires-clause-read c =
