@@ -1,12 +1,14 @@
 //! What the definitions are meant to say: which lists are refused, and where bytes are moved.
 
-ghost use Rattle.std.specs.Prelude.{◌≡◌, ◌∷◌, [], ◌&&◌, not, IfOk};
+ghost use Rattle.std.specs.Prelude.{◌≡◌, ◌∷◌, [], true, ◌&&◌, not, IfOk};
 ghost use Rattle.std.specs.List.{list_all};
 ghost use Rattle.machine_desc.specs.declared.desc.Region.{Region as RegionValue};
 ghost use Rattle.machine_desc.specs.Private.{is_private_range};
+ghost use Rattle.machine_desc.specs.Sound.{are_regions_sound};
 ghost use Rattle.ground.specs.Extents.{AreSmall};
 ghost use Rattle.fresh_load.specs.Placed.{is_placed, is_private_extent, sizes_of};
 ghost use Rattle.copy_lists.specs.Lists.{is_entry_private};
+ghost use Rattle.copy_lists.specs.Moving.{AreApart};
 
 use super::*;
 use ground::Ground;
@@ -370,8 +372,26 @@ fn are_copiable(from: &AreaMap, to: &AreaMap, entries: &[SgEntry]) -> bool
     entries.iter().all(|entry| is_copiable(from, to, entry))
 }
 
-/// Sees that the memory may be copied, and copies.
-#[tactic(auto, using(crate::proofs::Sizes::all_apart))]
+/// The map of a sound description.
+#[tactic(auto, using(machine_desc::proofs::Parts::sound_regions))]
+fn map_of(rt: &impl Abort, alloc: Global, desc: &Desc) -> Result<AreaMap, Fail>
+    ensures regions { IfOk result (λ map. map ≡ desc.now.regions) }
+    ensures sound { IfOk result (λ map. are_regions_sound map ≡ true) }
+{
+    assert!(rt; sound(desc));
+    Ok(AreaMap::new(alloc, desc)?)
+}
+
+/// Sees that no extent is private to both.
+fn expect_apart(rt: &impl Abort, from: &Desc, to: &Desc)
+    ensures { AreApart from.now.regions to.now.regions }
+{
+    if !are_apart(from.regions.as_slice(), to.regions.as_slice()) {
+        panic!(rt; "an extent is private to both");
+    }
+}
+
+/// Sees that the entries may be copied, and copies.
 fn copied(
     rt: &impl Abort,
     alloc: Global,
@@ -383,13 +403,12 @@ fn copied(
     requires { sizes_of memory.old ≡ 1048576 ∷ 4096 ∷ 1048576 ∷ 4096 ∷ 4096 ∷ [] }
     ensures { sizes_of memory.new ≡ 1048576 ∷ 4096 ∷ 1048576 ∷ 4096 ∷ 4096 ∷ [] }
 {
-    assert!(rt; sound(from) && sound(to));
-    let source = AreaMap::new(alloc, from)?;
-    let target = AreaMap::new(alloc, to)?;
+    let source = map_of(rt, alloc, from)?;
+    let target = map_of(rt, alloc, to)?;
     assert!(rt; are_there(memory, &SIZES, from.regions.as_slice()));
     assert!(rt; are_there(memory, &SIZES, to.regions.as_slice()));
-    assert!(rt; are_apart(from.regions.as_slice(), to.regions.as_slice()));
     assert!(rt; are_copiable(&source, &target, list.as_slice()));
+    expect_apart(rt, from, to);
     sg_copy(memory, &source, &target, list);
     Ok(())
 }
