@@ -1,7 +1,8 @@
 -- Entries copied one after another.
-use Rattle.std.proofs.Common.{◌≡◌, ℕ, ◌+◌, ◌<◌, true, false, ◌||◌, ◌&&◌, ◌==◌, List, length, get_or, drop, refl, sym, ap, subst, ◌∙◌}
+use Rattle.std.proofs.Common.{◌≡◌, ℕ, ◌+◌, true, false, ◌||◌, ◌&&◌, ◌==◌, List, drop, Some, refl, sym, ap, ◌∙◌}
 use Rattle.std.proofs.lemmas.Bool.{and_parts, eqb-true}
-use Rattle.std.proofs.lemmas.Option.{slice_get-get_or}
+use Rattle.std.specs.List.{slice_get}
+use Rattle.std.proofs.lemmas.Option.{slice_get_within, get_or_from_slice_get}
 use Rattle.std.proofs.lemmas.List.{at_drop_more}
 use Rattle.machine_desc.specs.declared.desc.Region.{Region}
 use Rattle.machine_desc.specs.Private.{is_private_range}
@@ -28,22 +29,16 @@ both_private from to entry h =
       | false ↦ λ t h. and_parts _ _ h
     ] refl h
 
-pub entry_private : (from to : List Region) (entries items : List SgEntry) (i : ℕ) (d : SgEntry) → items ≡ entries → AreCopiable from to entries → i < length entries
-    → (is_private_range from (get_or items i d).source (get_or items i d).size ≡ true) × (is_private_range to (get_or items i d).target (get_or items i d).size ≡ true)
-entry_private from to entries items i d same h below =
-    subst
-    (λ (all : List SgEntry). (is_private_range from (get_or all i d).source (get_or all i d).size ≡ true) × (is_private_range to (get_or all i d).target (get_or all i d).size ≡ true))
-    (sym same) (
-    both_private from to (get_or entries i d)
-    (all_at (is_entry_private (is_private_range from) (is_private_range to)) entries i (get_or entries i d) h (slice_get-get_or entries i d below))
-    )
+pub entry_private : (from to : List Region) (entries : List SgEntry) (i : ℕ) (entry : SgEntry) → AreCopiable from to entries → slice_get entries i ≡ Some entry
+    → (is_private_range from entry.source entry.size ≡ true) × (is_private_range to entry.target entry.size ≡ true)
+entry_private from to entries i entry h at = both_private from to entry (all_at (is_entry_private (is_private_range from) (is_private_range to)) entries i entry h at)
 
 -- the next entry
-pub next_copied : (from to : List Region) (entries items : List SgEntry) (memory after : List (List ℕ)) (i : ℕ) (d : SgEntry) → items ≡ entries → i < length entries
-    → after ≡ entry_copied from to memory (get_or items i d) → copied from to (drop (i + 1) entries) after ≡ copied from to (drop i entries) memory
-next_copied from to entries items memory after i d same below e =
-    ap (copied from to (drop (i + 1) entries)) (e ∙ ap (λ (all : List SgEntry). entry_copied from to memory (get_or all i d)) same)
-    ∙ sym (at_drop_more (λ (left : List SgEntry). copied from to left memory) entries i d below)
+pub next_copied : (from to : List Region) (entries : List SgEntry) (memory after : List (List ℕ)) (i : ℕ) (entry : SgEntry) → slice_get entries i ≡ Some entry
+    → after ≡ entry_copied from to memory entry → copied from to (drop (i + 1) entries) after ≡ copied from to (drop i entries) memory
+next_copied from to entries memory after i entry at e =
+    ap (copied from to (drop (i + 1) entries)) (e ∙ ap (entry_copied from to memory) (sym (get_or_from_slice_get entries i entry entry at)))
+    ∙ sym (at_drop_more (λ (left : List SgEntry). copied from to left memory) entries i entry (slice_get_within entries i entry at))
 
 pub next_sizes : (from to : List Region) (memory after : List (List ℕ)) (entry : SgEntry) → after ≡ entry_copied from to memory entry → sizes_of after ≡ sizes_of memory
 next_sizes from to memory after entry e = ap sizes_of e ∙ put_sizes to memory entry.target (bytes_in from memory entry.source entry.size)

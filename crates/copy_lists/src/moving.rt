@@ -79,7 +79,7 @@ pub fn sg_copy(ground: &mut Ground, from: &AreaMap, to: &AreaMap, list: &SgList)
     ensures sizes { sizes_of ground.new ≡ sizes_of ground.old }
     ensures others { (extent : ℕ) → is_private_extent to.now extent ≡ false → extent_at ground.new extent ≡ extent_at ground.old extent }
 {
-    for entry in list.as_slice() {
-        copy_entry(ground, from, to, entry);
+    for i in 0..list.len() {
+        copy_entry(ground, from, to, &list.entry(i));
     }
 }
