@@ -3,5 +3,6 @@ pub mod Putting
 pub mod Runs
 pub mod Entries
 pub mod Meaning
+pub mod Going
 pub mod Walking
 mod Sizes

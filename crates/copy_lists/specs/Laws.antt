@@ -1,13 +1,18 @@
 -- What the definitions mean for partitions that are joined, and for memory that is read by addresses.
-use Rattle.std.specs.Prelude.{◌≡◌, ℕ, List, IsTrue}
+use Rattle.std.specs.Prelude.{◌≡◌, ℕ, ◌*◌, ◌≤◌, Bool, true, false, List, IsTrue}
+use Rattle.machine_desc.specs.declared.desc.Port.{Port}
 use Rattle.machine_desc.specs.declared.desc.Region.{Region}
 use Rattle.machine_desc.specs.declared.desc.Span.{Span}
 use Rattle.machine_desc.specs.Joined.{are_private_spans}
 use Rattle.machine_desc.specs.Private.{is_private_range}
 use Rattle.machine_desc.specs.Sound.{are_regions_sound}
+use Rattle.guest_regs.specs.Registers.{Registers}
 use Rattle.fresh_load.specs.Placed.{ArePlaced}
+use Rattle.partition_manager.specs.declared.decision.Decision.TheVariants.{Go}
+use Rattle.copy_lists.specs.declared.list.SgEntry.{SgEntry}
+use Rattle.copy_lists.specs.Lists.{entry_size, most_bytes, total, list_address, list_count, is_to_managed, is_copy_asked, asked_entries, are_entries_private, copy_decision}
 use Rattle.copy_lists.specs.Spans.{is_in_spans}
-use Rattle.copy_lists.specs.Moving.{byte_in, bytes_in, byte_put, put, AreasFit}
+use Rattle.copy_lists.specs.Moving.{byte_in, bytes_in, byte_put, put, AreasFit, AreCopiable}
 
 -- Spans that are those of a partition's private regions hold what is private to that partition.
 abbrev pub SpansArePrivate : Type 0
@@ -25,3 +30,22 @@ abbrev pub SourceStays : Type 0
 SourceStays =
     (from to : List Region) (memory : List (List ℕ)) (at : ℕ) (bytes : List ℕ) (address size : ℕ) → AreasFit from to memory → IsTrue (is_private_range from address size)
     → bytes_in from (put to memory at bytes) address size ≡ bytes_in from memory address size
+
+-- What is sure of a copy that goes, over whatever memory and privacy.
+pub record IsChecked (ports : List Port) (registers : Registers) (own_private managed_private : ℕ → ℕ → Bool) (byte : ℕ → ℕ) : Type 0 where
+  pub asked : IsTrue (is_copy_asked ports registers)
+  pub list : IsTrue (own_private (list_address registers) (entry_size * list_count registers))
+  pub few : total (asked_entries registers byte) ≤ most_bytes
+  pub private : IsTrue (are_entries_private (is_to_managed registers) own_private managed_private (asked_entries registers byte))
+
+abbrev pub GoneIsChecked : Type 0
+GoneIsChecked =
+    (ports : List Port) (registers : Registers) (own_private managed_private : ℕ → ℕ → Bool) (byte : ℕ → ℕ) → copy_decision ports registers own_private managed_private byte ≡ Go
+    → IsChecked ports registers own_private managed_private byte
+
+-- The entries of a copy that goes may be copied between the regions of both partitions, in the direction that was asked.
+abbrev pub CheckedIsCopiable : Type 0
+CheckedIsCopiable =
+    (own managed : List Region) (managed_private : ℕ → ℕ → Bool) (entries : List SgEntry) → ((at size : ℕ) → managed_private at size ≡ is_private_range managed at size)
+    → (IsTrue (are_entries_private true (is_private_range own) managed_private entries) → AreCopiable own managed entries)
+    × (IsTrue (are_entries_private false (is_private_range own) managed_private entries) → AreCopiable managed own entries)

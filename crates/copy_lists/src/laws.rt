@@ -1,10 +1,16 @@
 //! Laws over the definitions. Each is a function with nothing to do, whose contract is the law.
 
-ghost use Rattle.copy_lists.specs.Laws.{SpansArePrivate, BytesPutAreRead, SourceStays};
+ghost use Rattle.copy_lists.specs.Laws.{SpansArePrivate, GoneIsChecked, CheckedIsCopiable, BytesPutAreRead, SourceStays};
 
 /// What a manage handle tells of the memory of its partition is what is private to it.
 pub fn spans_hold_what_is_private()
     ensures { SpansArePrivate }
+{}
+
+/// A copy that goes passed each check, and its entries may be copied.
+pub fn what_goes_may_be_copied()
+    ensures checked { GoneIsChecked }
+    ensures copiable { CheckedIsCopiable }
 {}
 
 /// Bytes that were put at an address are read there, and no other private byte changes.

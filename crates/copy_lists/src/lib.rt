@@ -18,7 +18,9 @@ mod reading;
 mod spans;
 
 pub use checking::sg_check;
-pub use laws::{bytes_put_are_read, spans_hold_what_is_private, the_source_stays};
+pub use laws::{
+    bytes_put_are_read, spans_hold_what_is_private, the_source_stays, what_goes_may_be_copied,
+};
 pub use list::{SgEntry, SgList};
 pub use moving::sg_copy;
 
