@@ -15,12 +15,12 @@ use Rattle.copy_lists.specs.Moving.{bytes_in, entry_copied, copied, AreCopiable}
 use Rattle.copy_lists.proofs.Putting.{put_sizes, put_others}
 
 -- a range without bytes is private
-none_private : (regions : List Region) (at size : ℕ) → size ≡ 0 → is_private_range regions at size ≡ true
+pub none_private : (regions : List Region) (at size : ℕ) → size ≡ 0 → is_private_range regions at size ≡ true
 unfolding is_private_range
 none_private regions at size none = rw none refl
 
 -- both ranges of an entry are private
-both_private : (from to : List Region) (entry : SgEntry) → is_entry_private (is_private_range from) (is_private_range to) entry ≡ true
+pub both_private : (from to : List Region) (entry : SgEntry) → is_entry_private (is_private_range from) (is_private_range to) entry ≡ true
     → (is_private_range from entry.source entry.size ≡ true) × (is_private_range to entry.target entry.size ≡ true)
 both_private from to entry h =
     elim (entry.size == 0) as (λ b. (entry.size == 0) ≡ b → (b || (is_private_range from entry.source entry.size && is_private_range to entry.target entry.size)) ≡ true

@@ -6,3 +6,5 @@ pub mod Meaning
 pub mod Going
 pub mod Walking
 mod Sizes
+pub mod Brought
+pub mod Pieces

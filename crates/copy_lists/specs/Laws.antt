@@ -1,5 +1,5 @@
 -- What the definitions mean for partitions that are joined, and for memory that is read by addresses.
-use Rattle.std.specs.Prelude.{◌≡◌, ℕ, ◌*◌, ◌≤◌, Bool, true, false, List, IsTrue}
+use Rattle.std.specs.Prelude.{◌≡◌, ℕ, ◌*◌, ◌≤◌, Bool, true, false, List, flat_map, IsTrue}
 use Rattle.machine_desc.specs.declared.desc.Port.{Port}
 use Rattle.machine_desc.specs.declared.desc.Region.{Region}
 use Rattle.machine_desc.specs.declared.desc.Span.{Span}
@@ -12,7 +12,8 @@ use Rattle.partition_manager.specs.declared.decision.Decision.TheVariants.{Go}
 use Rattle.copy_lists.specs.declared.list.SgEntry.{SgEntry}
 use Rattle.copy_lists.specs.Lists.{entry_size, most_bytes, total, list_address, list_count, is_to_managed, is_copy_asked, asked_entries, are_entries_private, copy_decision}
 use Rattle.copy_lists.specs.Spans.{is_in_spans}
-use Rattle.copy_lists.specs.Moving.{byte_in, bytes_in, byte_put, put, AreasFit, AreCopiable}
+use Rattle.copy_lists.specs.Moving.{byte_in, bytes_in, byte_put, put, copied, AreasFit, AreCopiable}
+use Rattle.copy_lists.specs.Pieces.{sources_of, size_of, pieces_out, pieces_in, all_put}
 
 -- Spans that are those of a partition's private regions hold what is private to that partition.
 abbrev pub SpansArePrivate : Type 0
@@ -49,3 +50,16 @@ CheckedIsCopiable =
     (own managed : List Region) (managed_private : ℕ → ℕ → Bool) (entries : List SgEntry) → ((at size : ℕ) → managed_private at size ≡ is_private_range managed at size)
     → (IsTrue (are_entries_private true (is_private_range own) managed_private entries) → AreCopiable own managed entries)
     × (IsTrue (are_entries_private false (is_private_range own) managed_private entries) → AreCopiable managed own entries)
+
+-- A copy between two partitions is what goes out of the one's memory, as it was before, put into the other's.
+abbrev pub CopiedIsPut : Type 0
+CopiedIsPut =
+    (from to : List Region) (memory : List (List ℕ)) (entries : List SgEntry) → AreasFit from to memory → AreCopiable from to entries
+    → copied from to entries memory ≡ all_put to (pieces_out from memory entries) memory
+
+-- What goes out has as many bytes as the list copies, and is what comes in where the bytes of all ranges that the list reads are given.
+abbrev pub OutIsIn : Type 0
+OutIsIn =
+    (from : List Region) (memory : List (List ℕ)) (entries : List SgEntry)
+    → (size_of (pieces_out from memory entries) ≡ total entries)
+    × (pieces_in entries (flat_map (λ (range : Span). bytes_in from memory range.at range.size) (sources_of entries)) ≡ pieces_out from memory entries)

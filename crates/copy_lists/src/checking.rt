@@ -1,6 +1,6 @@
 //! Whether a copy goes, or by which status it is refused.
 
-ghost use Rattle.std.specs.Prelude.{◌≡◌, ◌-◌, ◌^◌, min, nat_lt};
+ghost use Rattle.std.specs.Prelude.{◌≡◌, nat_lt};
 ghost use Rattle.machine_desc.specs.Private.{is_private_range};
 ghost use Rattle.machine_desc.specs.Sound.{IsSound};
 ghost use Rattle.fresh_load.specs.Placed.{ArePlaced};
@@ -13,7 +13,7 @@ ghost use Rattle.copy_lists.specs.Moving.{byte_in};
 use crate::asked::{
     is_copy_asked, is_to_managed, list_address, list_count, managed_handle, managed_spans,
 };
-use crate::list::{SgEntry, SgList};
+use crate::list::{SgEntry, SgList, total};
 use crate::reading::{ENTRY_SIZE, read_entries};
 use crate::spans::is_in_spans;
 use ground::Ground;
@@ -31,17 +31,6 @@ fn refused(status: Status) -> Decision
     ensures { result ≡ refused status }
 {
     Decision::Refuse(status.code())
-}
-
-/// How many bytes the entries copy together, or as many as a number can say.
-fn total(entries: &[SgEntry]) -> u64
-    ensures { result ≡ min (spec.total entries.now) (2 ^ 64 - 1) }
-{
-    let mut bytes = 0u64;
-    for entry in entries {
-        bytes = bytes.saturating_add(entry.size);
-    }
-    bytes
 }
 
 /// Whether they copy more bytes than a list may.

@@ -10,6 +10,7 @@
 #![tactic(auto)]
 
 mod asked;
+mod bringing;
 mod checking;
 mod laws;
 mod list;
@@ -17,9 +18,12 @@ mod moving;
 mod reading;
 mod spans;
 
+pub use asked::{is_to_managed, managed_handle};
+pub use bringing::{put_bytes, sg_put};
 pub use checking::sg_check;
 pub use laws::{
-    bytes_put_are_read, spans_hold_what_is_private, the_source_stays, what_goes_may_be_copied,
+    bytes_put_are_read, copies_are_pieces, spans_hold_what_is_private, the_source_stays,
+    what_goes_may_be_copied,
 };
 pub use list::{SgEntry, SgList};
 pub use moving::sg_copy;

@@ -1,7 +1,8 @@
 //! The list of what is to be copied.
 
-ghost use Rattle.std.specs.Prelude.{◌≡◌, [], ◌∷◌, ◌++◌, ◌<◌, ◌≤◌, Some, IfOk, length, slice_get};
+ghost use Rattle.std.specs.Prelude.{◌≡◌, ◌-◌, ◌^◌, [], ◌∷◌, ◌++◌, ◌<◌, ◌≤◌, Some, IfOk, length, min, slice_get};
 ghost use Rattle.copy_lists.specs.Lists.{most_entries};
+ghost use Rattle.copy_lists.specs.Lists as spec;
 
 use outside::NoMemory;
 use std::alloc::Global;
@@ -20,6 +21,17 @@ pub struct SgEntry {
     pub target: u64,
     /// In bytes.
     pub size: u64,
+}
+
+/// How many bytes the entries copy together, or as many as a number can say.
+pub(crate) fn total(entries: &[SgEntry]) -> u64
+    ensures { result ≡ min (spec.total entries.now) (2 ^ 64 - 1) }
+{
+    let mut bytes = 0u64;
+    for entry in entries {
+        bytes = bytes.saturating_add(entry.size);
+    }
+    bytes
 }
 
 /// An entry that copies nothing.
@@ -66,6 +78,13 @@ impl SgList {
         self.count
     }
 
+    /// How many bytes the entries copy together, or as many as a number can say.
+    pub fn total(&self) -> u64
+        ensures { result ≡ min (spec.total self.now) (2 ^ 64 - 1) }
+    {
+        total(self.as_slice())
+    }
+
     /// The entry at a place, counted from 0.
     pub fn entry(&self, i: usize) -> SgEntry
         requires { i < length self.now }
@@ -75,7 +94,7 @@ impl SgList {
     }
 
     /// The entries as a slice.
-    pub(crate) fn as_slice(&self) -> &[SgEntry]
+    pub fn as_slice(&self) -> &[SgEntry]
         ensures { result.now ≡ self.now }
     {
         &self.room[..self.count]

@@ -1,6 +1,6 @@
 use Rattle.std.proofs.Common.{◌≡◌, ◌-◌, ◌^◌, min, take, sum_by}
 use Rattle.copy_lists.specs.declared.list.SgEntry.{SgEntry}
-use Rattle.copy_lists.proofs.checking.total.Given as goal
+use Rattle.copy_lists.proofs.list.total.Given as goal
 
 -- the bytes of the entries so far
 abbrev pub invariant-loop-entry : goal.invariant-loop-entry
