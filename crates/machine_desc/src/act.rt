@@ -40,8 +40,6 @@ pub enum Act {
     SelfRestart,
     /// It met a machine check with MSR[ME] clear, and the partition has stopped.
     Faulted,
-    /// It would be a hypercall that isn't built yet. The partition is as it was before the step.
-    NotBuilt,
 }
 
 /// What happens to a partition between two steps. Each `h` is a handle of that partition.

@@ -1,9 +1,10 @@
 //! The description of a partition, and what joins partitions.
 //!
 //! Plain data that the machine and its definition both read, with what a step did and what happens between two steps. It
-//! stands on `outside`, and on `arrayvec` for bytes that are sent. `specs/Limits.antt` has the counts and sizes that descriptions keep, `specs/Ranges.antt` says when ranges are apart, `specs/Private.antt` what is
-//! private, `specs/Sound.antt` which descriptions are sound, and `specs/Joined.antt` which are joined by a wiring; the
-//! contracts are these definitions.
+//! stands on `outside`, and on `arrayvec` for bytes that are sent. `specs/Limits.antt` has the counts and sizes that
+//! descriptions keep, `specs/Ranges.antt` says when ranges are apart, `specs/Private.antt` what is private,
+//! `specs/Sound.antt` which descriptions are sound, and `specs/Joined.antt` which are joined by a wiring; the contracts are
+//! these definitions.
 #![tactic(auto)]
 
 mod act;

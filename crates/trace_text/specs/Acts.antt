@@ -84,4 +84,3 @@ act_text name step (act.CopyFrom handle total) = copy_from_line name step handle
 act_text name step act.SelfStop = self_stop_line name step
 act_text name step act.SelfRestart = self_restart_line name step
 act_text name step act.Faulted = faulted_line name step
-act_text name step act.NotBuilt = []

@@ -18,7 +18,7 @@ pub fn act_line<S: Sink>(out: &mut S, name: &[u8], step: u64, act: &Act) -> Resu
         (spec.act_text name.now step act.now) }
 {
     match act {
-        Act::None | Act::Took { h: _, count: _ } | Act::NotBuilt => Ok(()),
+        Act::None | Act::Took { h: _, count: _ } => Ok(()),
         Act::Sent { h, bytes } => sent_line(out, name, step, *h, bytes.as_slice()),
         Act::Rang { h } => handle_line(out, name, step, b"ring", *h),
         Act::Start { h, entry, load } => start_line(out, name, step, *h, *entry, *load),

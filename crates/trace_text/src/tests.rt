@@ -44,7 +44,7 @@ fn started(entry: u32, load: bool) -> Act {
 }
 
 /// Each act with its line.
-fn told_acts() -> [ToldAct; 15] {
+fn told_acts() -> [ToldAct; 14] {
     [
         told(Act::None, b""),
         told(sent_two(), b"guest 6 sent 1 4869\n"),
@@ -69,7 +69,6 @@ fn told_acts() -> [ToldAct; 15] {
         told(Act::SelfStop, b"guest 6 stop self\n"),
         told(Act::SelfRestart, b"guest 6 restart self\n"),
         told(Act::Faulted, b"guest 6 faulted\n"),
-        told(Act::NotBuilt, b""),
     ]
 }
 
