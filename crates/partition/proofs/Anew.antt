@@ -97,13 +97,13 @@ foreign_private (region ∷ regions) extent foreign =
 -- a partition that restarts itself
 pub restarted_part : (old counted new : Part) (before after : List (List ℕ)) (act : Told) → act ≡ told.SelfRestart → counted ≡ record old { inner = record old.inner { steps = old.inner.steps + 1 } }
     → ((ends : List End) → machine_of new (emptied ends) after ≡ apply counted.desc (machine_of counted ends before) Restart) → new.desc ≡ counted.desc
-    → new ≡ record old { inner = inner_after old.desc (act_of act) old.inner }
+    → new ≡ record old { inner = inner_after old.desc (act_of [] act) old.inner }
 unfolding apply
 restarted_part old counted new before after act is count restarted desc =
     let next : Part = record old { inner = record old.inner { steps = old.inner.steps + 1 } } in
     let inner : new.inner ≡ started_inner old.desc old.desc.entry next.inner =
     ap (λ (m : Machine). m.inner) (restarted []) ∙ ap (λ (p : Part). started_inner p.desc p.desc.entry p.inner) count in
     let same : new.desc ≡ old.desc = desc ∙ ap (λ (p : Part). p.desc) count in
-    let by : inner_after old.desc (act_of told.SelfRestart) old.inner ≡ inner_after old.desc (act_of act) old.inner = ap (λ (a : Told). inner_after old.desc (act_of a) old.inner) (sym is) in
+    let by : inner_after old.desc (act_of [] told.SelfRestart) old.inner ≡ inner_after old.desc (act_of [] act) old.inner = ap (λ (a : Told). inner_after old.desc (act_of [] a) old.inner) (sym is) in
     let all = inner ∙ by in
     λ i. record { desc = same i; inner = all i }

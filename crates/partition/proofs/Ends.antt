@@ -1,5 +1,5 @@
 -- The ends of ports in memory.
-use Rattle.std.proofs.Common.{◌≡◌, ℕ, ◌+◌, ◌-◌, ◌<◌, ◌≤◌, get_or-set_same, ◌==◌, Bool, true, false, cond, List, [], ◌∷◌, length, map, slice_index_or, slice_set, zero, suc, Some, None, refl, sym, ap, ◌∙◌, arith}
+use Rattle.std.proofs.Common.{◌≡◌, ℕ, ◌+◌, ◌-◌, ◌<◌, get_or-set_same, ◌==◌, Bool, true, false, cond, List, [], ◌∷◌, length, map, slice_index_or, slice_set, zero, suc, Some, None, refl, sym, ap, ◌∙◌, arith}
 use Rattle.std.specs.List.{slice_get}
 use Rattle.std.proofs.lemmas.Bool.{eqb-false}
 use Rattle.std.proofs.lemmas.List.{length-map, length-append, length-drop, get_or-map}
@@ -11,7 +11,7 @@ use Rattle.partition.specs.declared.mem_end.MemEnd.{MemEnd}
 use Rattle.machine_desc.specs.declared.act.Act.{Act as Told}
 use Rattle.machine_desc.specs.declared.act.Act.TheVariants as told
 use Rattle.partition.specs.declared.kind.Kind.TheVariants.{Channel}
-use Rattle.partition.specs.Act.{Act, NotBuilt, act_of, ports_after, steps_after}
+use Rattle.partition.specs.Act.{act_of, ports_after}
 use Rattle.partition.specs.Lending.{HasHandle, IsOutstanding}
 use Rattle.partition.specs.Port.{End, kind_at, end_at, with_end, sent_on, freed_on, told_on, emptied, empty_end}
 use Rattle.partition.specs.MemPorts.{end_of, ends_of, sorts_of, mem_end_at, no_end, with_channel, emptied_end}
@@ -108,15 +108,10 @@ in_list kinds handle kind e = by_zero (handle == 0) refl
     by_zero true z = absurd (let f : None ≡ Some kind = sym (ap (λ (b : Bool). cond b None (slice_get kinds (handle - 1))) z) ∙ e in cc)
     by_zero false z = slice_get_within kinds (handle - 1) kind (sym (ap (λ (b : Bool). cond b None (slice_get kinds (handle - 1))) z) ∙ e)
 
-pub is_outstanding : (ends : List MemEnd) (kinds : List Kind) (new : List End) (act : Told) → sorts_of ends ≡ kinds → HasHandle kinds act → new ≡ ports_after (act_of act) (ends_of ends) → IsOutstanding act new
+pub is_outstanding : (ends : List MemEnd) (kinds : List Kind) (new : List End) (act : Told) → sorts_of ends ≡ kinds → HasHandle kinds act → new ≡ ports_after (act_of [] act) (ends_of ends) → IsOutstanding act new
 is_outstanding ends kinds new (told.Sent handle bytes) same has e =
     let there : handle - 1 < length (ends_of ends) = omega (arith, in_list kinds handle Channel has, ap length (sym same), length-map ends (λ (it : MemEnd). it.kind), length-map ends end_of) in
     let is : end_at new handle ≡ record (end_at (ends_of ends) handle) { outstanding = (end_at (ends_of ends) handle).outstanding + length bytes.items } =
     ap (λ (es : List End). end_at es handle) e ∙ get_or-set_same (ends_of ends) (handle - 1) _ empty_end there in
     omega (arith, ap (λ (e : End). e.outstanding) is)
 is_outstanding ends kinds new _ same has e = tt
-
--- a step counts itself, or nothing
-pub steps_rise : (act : Act) (steps : ℕ) → (steps ≤ steps_after act steps) × (steps_after act steps ≤ steps + 1)
-steps_rise NotBuilt steps = (omega arith, omega arith)
-steps_rise _ steps = (omega arith, omega arith)

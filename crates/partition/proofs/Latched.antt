@@ -22,10 +22,11 @@ use Rattle.partition.specs.declared.found.Found.{Found}
 use Rattle.partition.specs.declared.found.Found.TheVariants.{Missing, Unbacked, Backed}
 use Rattle.partition.specs.Found.{lookup}
 use Rattle.partition.specs.Port.{End}
-use Rattle.partition.specs.Act.{Act, SelfRestart, NotBuilt}
+use Rattle.partition.specs.Act.{Act, SelfRestart}
+use Rattle.partition.specs.Copying.{asked_copy, copy}
 use Rattle.partition.specs.Interrupts.{interrupt_count, levels, is_line_up, bell_at, rung_by, Ruled, done, refused, telling_config, telling_mask, set_config, get_config, set_mask, get_mask, acknowledge, end_of_interrupt, set_task_priority, get_task_priority}
 use Rattle.partition.specs.Machine.{Cpu, Machine, Shape, shape_of, core_at, fresh, fresh_interrupts}
-use Rattle.partition.specs.Step.{Done, CoreStepped, quiet, with_registers, entered, ruled, managed, served, checked, missed, handled, still, instruction, begun, is_pending, pending, acted, unless_unbuilt, not_done, core_step, with_step, unless_restarting, step}
+use Rattle.partition.specs.Step.{Done, CoreStepped, quiet, with_registers, entered, ruled, managed, served, checked, missed, handled, still, instruction, begun, is_pending, pending, acted, asks_copy, copying, answering_to, core_step, with_step, unless_restarting, step}
 use Rattle.partition.specs.Event.{Event, Ring, Start, Restart, apply}
 use Rattle.partition.specs.Reached.{Move, Steps, Takes, moved, after_moves, AreInterruptsSound, InterruptsStaySound}
 
@@ -152,36 +153,32 @@ follows_handled shape (core.MissData ea store) cpu old ends = follows_missed _ _
 follows_handled shape (core.MissInsn ea) cpu old ends = follows_missed _ _ cpu old
 follows_handled shape _ cpu old ends = same old
 
-follows_instruction : (shape : Shape) (cpu : Cpu) (old : Controller) (ends : List End) (memory : List (List ℕ)) → Follows old (instruction shape cpu old ends memory).interrupts
-unfolding instruction
-follows_instruction shape cpu old ends memory =
-    let did : core.Stepped = core.stepped (lookup shape.areas cpu.translations) cpu.registers memory in
-    follows_handled shape did.answer (with_registers did.registers cpu) old ends
-
 of_either : (b : Bool) (one other : CoreStepped) (old : Controller) → Follows old one.interrupts → Follows old other.interrupts → Follows old (cond b one other).interrupts
 of_either true one other old h k = h
 of_either false one other old h k = k
 
-follows_acted : (shape : Shape) (line : Bool) (cpu : Cpu) (old : Controller) (ends : List End) (memory : List (List ℕ)) → Follows old (acted shape line cpu old ends memory).interrupts
+follows_instruction : (shape : Shape) (cpu : Cpu) (old : Controller) (ends : List End) (memory : List (List ℕ)) (feed : List ℕ) → Follows old (instruction shape cpu old ends memory feed).interrupts
+unfolding instruction
+follows_instruction shape cpu old ends memory feed =
+    let did : core.Stepped = core.stepped (lookup shape.areas cpu.translations) cpu.registers memory in
+    let left : Cpu = with_registers did.registers cpu in
+    of_either (asks_copy did.answer did.registers) (copying shape (copy shape did.registers did.memory) (asked_copy shape did.registers did.memory) feed left old did.memory) (answering_to shape did.answer left old ends did.memory) old
+    (same old) (follows_handled shape did.answer left old ends)
+
+follows_acted : (shape : Shape) (line : Bool) (cpu : Cpu) (old : Controller) (ends : List End) (memory : List (List ℕ)) (feed : List ℕ) → Follows old (acted shape line cpu old ends memory feed).interrupts
 unfolding acted
-follows_acted shape line cpu old ends memory =
+follows_acted shape line cpu old ends memory feed =
     of_either (is_pending line cpu.registers && are_interrupts_enabled cpu.registers) (still (quiet (entered (pending line) cpu) old) memory) _ old (same old)
-    (of_either cpu.registers.idle (still (quiet cpu old) memory) _ old (same old) (follows_instruction shape cpu old ends memory))
+    (of_either cpu.registers.idle (still (quiet cpu old) memory) _ old (same old) (follows_instruction shape cpu old ends memory feed))
 
-follows_unless : (act : Act) (did nothing : CoreStepped) (old : Controller) → Follows old nothing.interrupts → Follows old did.interrupts → Follows old (unless_unbuilt act did nothing).interrupts
-follows_unless NotBuilt did nothing old h k = h
-follows_unless _ did nothing old h k = k
-
-follows_core : (shape : Shape) (cpu : Cpu) (old : Controller) (ends : List End) (memory : List (List ℕ)) → Follows old (core_step shape cpu old ends memory).interrupts
+follows_core : (shape : Shape) (cpu : Cpu) (old : Controller) (ends : List End) (memory : List (List ℕ)) (feed : List ℕ) → Follows old (core_step shape cpu old ends memory feed).interrupts
 unfolding core_step
-follows_core shape cpu old ends memory =
-    let line = is_line_up shape.ports old ends in
-    let did : CoreStepped = acted shape line (begun line cpu) old ends memory in
-    follows_unless did.act did (not_done cpu old memory) old (same old) (follows_acted shape line (begun line cpu) old ends memory)
+follows_core shape cpu old ends memory feed =
+    let line = is_line_up shape.ports old ends in follows_acted shape line (begun line cpu) old ends memory feed
 
 -- a step leaves the number of sources
-pub sources_stay : (shape : Shape) (cpu : Cpu) (old new : Controller) (ends : List End) (memory : List (List ℕ)) → (core_step shape cpu old ends memory).interrupts ≡ new → length new.sources ≡ length old.sources
-sources_stay shape cpu old new ends memory e = ap (λ (it : Controller). length it.sources) (sym e) ∙ (follows_core shape cpu old ends memory).count
+pub sources_stay : (shape : Shape) (cpu : Cpu) (old new : Controller) (ends : List End) (memory : List (List ℕ)) (feed : List ℕ) → (core_step shape cpu old ends memory feed).interrupts ≡ new → length new.sources ≡ length old.sources
+sources_stay shape cpu old new ends memory feed e = ap (λ (it : Controller). length it.sources) (sym e) ∙ (follows_core shape cpu old ends memory feed).count
 
 -- and so does a ring
 pub ring_sources : (n : ℕ) (old : Controller) → length (rung n old).sources ≡ length old.sources
@@ -229,9 +226,9 @@ stays_restarting desc act machine sound = sound
 stays_step : (desc : Desc) (machine : Machine) (core : ℕ) (feed : List ℕ) → AreInterruptsSound desc machine.inner.interrupts → AreInterruptsSound desc (step desc machine core feed).after.inner.interrupts
 unfolding step
 stays_step desc machine core feed sound =
-    let did : CoreStepped = core_step (shape_of desc) (core_at machine.inner.cores core) machine.inner.interrupts machine.ports machine.memory in
+    let did : CoreStepped = core_step (shape_of desc) (core_at machine.inner.cores core) machine.inner.interrupts machine.ports machine.memory feed in
     stays_restarting desc did.act (with_step core did machine)
-    (stays desc machine.inner.interrupts _ (follows_core (shape_of desc) (core_at machine.inner.cores core) machine.inner.interrupts machine.ports machine.memory) sound)
+    (stays desc machine.inner.interrupts _ (follows_core (shape_of desc) (core_at machine.inner.cores core) machine.inner.interrupts machine.ports machine.memory feed) sound)
 
 stays_moved : (desc : Desc) (move : Move) (machine : Machine) → AreInterruptsSound desc machine.inner.interrupts → AreInterruptsSound desc (moved desc move machine).inner.interrupts
 stays_moved desc (Steps core feed) machine sound = stays_step desc machine core feed sound

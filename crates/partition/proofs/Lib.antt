@@ -1,3 +1,8 @@
+pub mod OwnBytes
+pub mod OwnPut
+pub mod Copies
+pub mod Asked
+pub mod Carried
 pub mod Lent
 pub mod Levels
 pub mod Among
@@ -17,3 +22,7 @@ pub mod Acting
 pub mod Anew
 pub mod Forgets
 pub mod Managed
+pub mod Copied
+pub mod CopiesIn
+pub mod Applied
+pub mod Ways

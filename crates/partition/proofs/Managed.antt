@@ -23,7 +23,7 @@ use Rattle.partition.specs.Managing.{runs_at, stop, restart}
 use Rattle.partition.specs.Step.{managed, obeying}
 
 -- a handle of a managed partition is of that kind
-manage_kind : (ports : List Port) (handle : ℕ) → is_manage_at ports handle ≡ true → kind_at (kinds_of ports) handle ≡ Some Manage
+pub manage_kind : (ports : List Port) (handle : ℕ) → is_manage_at ports handle ≡ true → kind_at (kinds_of ports) handle ≡ Some Manage
 manage_kind ports handle h = managed_sort kind_of Manage (λ part held private. refl) ports handle h
 
 -- what doesn't run is a managed partition

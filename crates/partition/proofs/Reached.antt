@@ -21,12 +21,16 @@ use Rattle.vpic.specs.Controller.{Controller}
 use Rattle.partition.specs.Interrupts.{is_line_up}
 use Rattle.partition.specs.Found.{lookup}
 use Rattle.partition.specs.Port.{End}
-use Rattle.partition.specs.Act.{Act, SelfRestart, NotBuilt, ends_caller}
+use Rattle.machine_desc.specs.declared.desc.Span.{Span}
+use Rattle.copy_lists.specs.Pieces.{span_of}
+use Rattle.partition.specs.Act.{Act, SelfRestart, ends_caller}
 use Rattle.partition.specs.Channels.{Served}
 use Rattle.partition.specs.Managing.{stop, restart}
+use Rattle.partition.specs.Reservations.{with_copied}
+use Rattle.partition.specs.Copying.{asked_copy, copy, copied_at}
 use Rattle.partition.specs.Machine.{Cpu, Machine, Shape, shape_of, core_at, no_cpu, booted, booted_all, fresh}
-use Rattle.partition.specs.Step.{Done, CoreStepped, quiet, with_registers, entered, answered, waiting, gone_on, obeying, ruled, managed, served, checked, missed, privileged, handled, still, instruction, begun, is_pending, pending, acted, unless_unbuilt, not_done, core_step, with_step, unless_restarting, step}
-use Rattle.partition.specs.Event.{Event, Bytes, Room, Ring, Tells, Start, Stop, Restart, apply}
+use Rattle.partition.specs.Step.{Done, CoreStepped, quiet, with_registers, entered, answered, waiting, gone_on, obeying, ruled, managed, served, checked, missed, privileged, handled, still, instruction, begun, is_pending, pending, acted, asks_copy, copying, answering_to, core_step, with_step, unless_restarting, step}
+use Rattle.partition.specs.Event.{Event, Bytes, Room, Ring, Tells, Start, Stop, Restart, CopyIn, apply}
 use Rattle.partition.specs.Reached.{Move, Steps, Takes, moved, after_moves, TranslationsStaySound}
 
 -- ---- the step of a core
@@ -60,7 +64,6 @@ unfolding served managed ruled
 stays_served ports call.Idle cpu interrupts ends h = stays_answered (waiting cpu) _ (record { slots = h.slots; victim = h.victim })
 stays_served ports call.Restart cpu interrupts ends h = stays_obeying (restart ports cpu.registers ends) cpu interrupts h
 stays_served ports call.Stop cpu interrupts ends h = stays_obeying (stop ports cpu.registers ends) cpu interrupts h
-stays_served ports call.Memcpy cpu interrupts ends h = h
 stays_served ports _ cpu interrupts ends h = stays_answered cpu _ h
 
 stays_entered : (reason : Cause) (cpu : Cpu) → Keeps cpu → Keeps (entered reason cpu)
@@ -97,32 +100,32 @@ stays_handled shape (core.Align ea store) cpu interrupts ends h = stays_entered 
 stays_handled shape (core.Program syndrome) cpu interrupts ends h = stays_entered _ cpu h
 stays_handled shape core.NoFloat cpu interrupts ends h = stays_entered _ cpu h
 
-stays_instruction : (shape : Shape) (cpu : Cpu) (interrupts : Controller) (ends : List End) (memory : List (List ℕ)) → Keeps cpu → Keeps (instruction shape cpu interrupts ends memory).cpu
-unfolding instruction
-stays_instruction shape cpu interrupts ends memory h =
-    let did : core.Stepped = core.stepped (lookup shape.areas cpu.translations) cpu.registers memory in
-    stays_handled shape did.answer (with_registers did.registers cpu) interrupts ends (record { slots = h.slots; victim = h.victim })
+stays_copying : (ranges : List Span) (it : Reply) (cpu : Cpu) → Keeps cpu → Keeps (answered it (with_copied ranges cpu))
+stays_copying ranges it cpu h = stays_answered (with_copied ranges cpu) it (record { slots = h.slots; victim = h.victim })
 
-stays_acted : (shape : Shape) (line : Bool) (cpu : Cpu) (interrupts : Controller) (ends : List End) (memory : List (List ℕ)) → Keeps cpu → Keeps (acted shape line cpu interrupts ends memory).cpu
+stays_instruction : (shape : Shape) (cpu : Cpu) (interrupts : Controller) (ends : List End) (memory : List (List ℕ)) (feed : List ℕ) → Keeps cpu → Keeps (instruction shape cpu interrupts ends memory feed).cpu
+unfolding instruction
+stays_instruction shape cpu interrupts ends memory feed h =
+    let did : core.Stepped = core.stepped (lookup shape.areas cpu.translations) cpu.registers memory in
+    let left : Cpu = with_registers did.registers cpu in
+    of_either (asks_copy did.answer did.registers) (copying shape (copy shape did.registers did.memory) (asked_copy shape did.registers did.memory) feed left interrupts did.memory) (answering_to shape did.answer left interrupts ends did.memory)
+    (stays_copying (copied_at (asked_copy shape did.registers did.memory)) _ left (record { slots = h.slots; victim = h.victim }))
+    (stays_handled shape did.answer left interrupts ends (record { slots = h.slots; victim = h.victim }))
+
+stays_acted : (shape : Shape) (line : Bool) (cpu : Cpu) (interrupts : Controller) (ends : List End) (memory : List (List ℕ)) (feed : List ℕ) → Keeps cpu → Keeps (acted shape line cpu interrupts ends memory feed).cpu
 unfolding acted
-stays_acted shape line cpu interrupts ends memory h =
+stays_acted shape line cpu interrupts ends memory feed h =
     of_either (is_pending line cpu.registers && are_interrupts_enabled cpu.registers) (still (quiet (entered (pending line) cpu) interrupts) memory) _ (stays_entered _ cpu h)
-    (of_either cpu.registers.idle (still (quiet cpu interrupts) memory) _ h (stays_instruction shape cpu interrupts ends memory h))
+    (of_either cpu.registers.idle (still (quiet cpu interrupts) memory) _ h (stays_instruction shape cpu interrupts ends memory feed h))
 
 stays_begun : (line : Bool) (cpu : Cpu) → Keeps cpu → Keeps (begun line cpu)
 unfolding begun
 stays_begun line cpu h = record { slots = h.slots; victim = h.victim }
 
-stays_unless : (act : Act) (done nothing : CoreStepped) → Keeps nothing.cpu → Keeps done.cpu → Keeps (unless_unbuilt act done nothing).cpu
-stays_unless NotBuilt done nothing h k = h
-stays_unless _ done nothing h k = k
-
-stays_core : (shape : Shape) (cpu : Cpu) (interrupts : Controller) (ends : List End) (memory : List (List ℕ)) → Keeps cpu → Keeps (core_step shape cpu interrupts ends memory).cpu
+stays_core : (shape : Shape) (cpu : Cpu) (interrupts : Controller) (ends : List End) (memory : List (List ℕ)) (feed : List ℕ) → Keeps cpu → Keeps (core_step shape cpu interrupts ends memory feed).cpu
 unfolding core_step
-stays_core shape cpu interrupts ends memory h =
-    let line = is_line_up shape.ports interrupts ends in
-    let done : CoreStepped = acted shape line (begun line cpu) interrupts ends memory in
-    stays_unless done.act done (not_done cpu interrupts memory) h (stays_acted shape line (begun line cpu) interrupts ends memory (stays_begun line cpu h))
+stays_core shape cpu interrupts ends memory feed h =
+    let line = is_line_up shape.ports interrupts ends in stays_acted shape line (begun line cpu) interrupts ends memory feed (stays_begun line cpu h)
 
 -- ---- all cores
 
@@ -161,9 +164,9 @@ stays_restarting desc act machine all = all
 stays_step : (desc : Desc) (machine : Machine) (core : ℕ) (feed : List ℕ) → AllKeep machine.inner.cores → AllKeep (step desc machine core feed).after.inner.cores
 unfolding step
 stays_step desc machine core feed all =
-    let done : CoreStepped = core_step (shape_of desc) (core_at machine.inner.cores core) machine.inner.interrupts machine.ports machine.memory in
+    let done : CoreStepped = core_step (shape_of desc) (core_at machine.inner.cores core) machine.inner.interrupts machine.ports machine.memory feed in
     stays_restarting desc done.act (with_step core done machine)
-    (stays_set machine.inner.cores core _ all (λ here. stays_core (shape_of desc) (core_at machine.inner.cores core) machine.inner.interrupts machine.ports machine.memory (all core here)))
+    (stays_set machine.inner.cores core _ all (λ here. stays_core (shape_of desc) (core_at machine.inner.cores core) machine.inner.interrupts machine.ports machine.memory feed (all core here)))
 
 stays_told : (desc : Desc) (machine : Machine) (event : Event) → AllKeep machine.inner.cores → AllKeep (apply desc machine event).inner.cores
 unfolding apply
@@ -174,6 +177,11 @@ stays_told desc machine (Tells handle runs) all = all
 stays_told desc machine (Start entry load) all = stays_booted desc entry
 stays_told desc machine Stop all = all
 stays_told desc machine Restart all = stays_booted desc desc.entry
+stays_told desc machine (CopyIn piece) all = λ k below.
+    let ranges : List Span = span_of piece ∷ [] in
+    let within : k < length machine.inner.cores = omega (arith, below, length-map machine.inner.cores (with_copied ranges)) in
+    let is = get_or-map (with_copied ranges) machine.inner.cores k no_cpu no_cpu within in
+    subst Keeps (sym is) (record { slots = (all k within).slots; victim = (all k within).victim })
 
 stays_moved : (desc : Desc) (move : Move) (machine : Machine) → AllKeep machine.inner.cores → AllKeep (moved desc move machine).inner.cores
 stays_moved desc (Steps core feed) machine all = stays_step desc machine core feed all

@@ -21,13 +21,17 @@ use Rattle.partition_manager.specs.Decisions.{decide_start, decide_stop, decide_
 use Rattle.partition.specs.declared.kind.Kind.{Kind}
 use Rattle.partition.specs.Channels.{Served, refusal, is_channel, is_bad_transfer, sending, receiving, polling, send, receive, poll}
 use Rattle.partition.specs.Port.{End, kinds_of, kind_at, end_at, room_at}
-use Rattle.partition.specs.Act.{Nothing, Rang, Start, Stop, Restart, SelfStop, SelfRestart, sent, ends_caller, state_after}
+use Rattle.copy_lists.specs.declared.list.SgEntry.{SgEntry}
+use Rattle.copy_lists.specs.Lists.{is_to_managed, managed_handle, asked_entries, decided_entries}
+use Rattle.partition.specs.Act.{Act, Nothing, Rang, Start, Stop, Restart, SelfStop, SelfRestart, sent, ends_caller, state_after}
 use Rattle.partition.specs.Interrupts.{Ruled, is_line_up, levels, is_send, granted, doorbell_send, done, refused, telling_config, telling_mask, set_config, get_config, set_mask, get_mask, acknowledge, end_of_interrupt, set_task_priority, get_task_priority}
-use Rattle.partition.specs.Machine.{Cpu}
+use Rattle.partition.specs.Machine.{Cpu, Shape}
+use Rattle.partition.specs.Reservations.{with_copied}
+use Rattle.partition.specs.Copying.{Copy, own_regions, own_byte, decide_copy, asked_copy, copy_act, copy, copied_at}
 use Rattle.partition.specs.Managing.{runs_at, decided, commanding, own_or, start, stop, restart, get_status}
-use Rattle.partition.specs.Step.{Done, CoreStepped, still, answered, answering, gone_on, obeying, ruling, waiting, ruled, managed, served, begun}
-use Rattle.partition.proofs.Steps.{core_whole, core_nothing}
-use Rattle.partition.proofs.Calls.{instructs, hypercall, general}
+use Rattle.partition.specs.Step.{Done, CoreStepped, still, answered, answering, gone_on, obeying, ruling, waiting, ruled, managed, served, is_copy, copying, begun, core_step}
+use Rattle.partition.proofs.Copies.{nothing_copied}
+use Rattle.partition.proofs.Calls.{called, instructs, hypercall, general}
 use Rattle.partition.specs.Refusal.{RefusesQuietly, RefusalsAreQuiet}
 
 -- what a hypercall leaves refuses quietly
@@ -251,7 +255,6 @@ quiet-served ports call.Receive cpu interrupts ends memory all hears = quiet-rec
 quiet-served ports call.Poll cpu interrupts ends memory all hears = quiet-poll (kinds_of ports) cpu interrupts ends memory all
 quiet-served ports call.DoorbellSend cpu interrupts ends memory all hears = quiet-doorbell (kinds_of ports) cpu interrupts ends memory all
 quiet-served ports call.Idle cpu interrupts ends memory all hears = quiet-idle cpu interrupts ends memory all
-quiet-served ports call.Unlisted cpu interrupts ends memory all hears = quiet-refusal status.Unimplemented cpu interrupts ends memory
 quiet-served ports call.SetConfig cpu interrupts ends memory all hears = quiet-set_config cpu interrupts ends memory all
 quiet-served ports call.GetConfig cpu interrupts ends memory all hears = quiet-get_config cpu interrupts ends memory all
 quiet-served ports call.SetMask cpu interrupts ends memory all hears = quiet-set_mask cpu interrupts ends memory all
@@ -264,17 +267,45 @@ quiet-served ports call.Start cpu interrupts ends memory all hears = quiet-start
 quiet-served ports call.Stop cpu interrupts ends memory all hears = quiet-stop ports cpu interrupts ends memory all hears
 quiet-served ports call.Restart cpu interrupts ends memory all hears = quiet-restart ports cpu interrupts ends memory all hears
 quiet-served ports call.GetStatus cpu interrupts ends memory all hears = quiet-status ports cpu interrupts ends memory all
-quiet-served ports _ cpu interrupts ends memory all hears = λ _.
-    (record { bytes = refl; stored = refl; interrupts = refl; translations = refl; next_victim = refl; state = refl; others = refl; registers = λ n _ _. refl }, λ _. record { fourth = refl; ports = refl })
+quiet-served ports _ cpu interrupts ends memory all hears = quiet-refusal status.Unimplemented cpu interrupts ends memory
+
+-- ---- copying
+
+-- what is refused copies nothing, and what is done isn't refused
+quiet-copied : (decision : Decision) (to_managed : Bool) (shape : Shape) (act : Act) (handle : ℕ) (entries : List SgEntry) (feed : List ℕ) (cpu : Cpu) (interrupts : Controller) (ends : List End) (memory : List (List ℕ)) → length cpu.registers.gpr ≡ 32
+    → RefusesQuietly cpu interrupts ends memory (copying shape (decided decision (commanding act)) (record { handle = handle; to_managed = to_managed; entries = decided_entries decision entries }) feed cpu interrupts memory)
+quiet-copied Go to_managed shape act handle entries feed cpu interrupts ends memory all =
+    let it : Copy = record { handle = handle; to_managed = to_managed; entries = entries } in
+    λ refused. absurd (refused (third (granted).reply (with_copied (copied_at it) cpu) all))
+quiet-copied (Refuse number) true shape act handle entries feed cpu interrupts ends memory all =
+    subst (λ (left : Cpu). RefusesQuietly cpu interrupts ends memory (record { cpu = answered (record { status = number; outs = [] }) left; interrupts = interrupts; memory = memory; act = Nothing; stored = [] })) (sym (nothing_copied cpu)) (quiet-refuse number cpu interrupts ends memory)
+quiet-copied (Refuse number) false shape act handle entries feed cpu interrupts ends memory all =
+    subst (λ (left : Cpu). RefusesQuietly cpu interrupts ends memory (record { cpu = answered (record { status = number; outs = [] }) left; interrupts = interrupts; memory = memory; act = Nothing; stored = [] })) (sym (nothing_copied cpu)) (quiet-refuse number cpu interrupts ends memory)
+
+quiet-copy : (shape : Shape) (feed : List ℕ) (cpu : Cpu) (interrupts : Controller) (ends : List End) (memory : List (List ℕ)) → length cpu.registers.gpr ≡ 32
+    → RefusesQuietly cpu interrupts ends memory (copying shape (copy shape cpu.registers memory) (asked_copy shape cpu.registers memory) feed cpu interrupts memory)
+unfolding copy
+quiet-copy shape feed cpu interrupts ends memory all =
+    quiet-copied (decide_copy shape cpu.registers memory) (is_to_managed cpu.registers) shape (copy_act (own_regions shape.areas) memory (asked_copy shape cpu.registers memory)) (managed_handle cpu.registers) (asked_entries cpu.registers (own_byte shape.areas memory)) feed cpu interrupts ends memory all
+
+-- ---- all calls
+
+quiet-called : (copies : Bool) (shape : Shape) (service : Call) (cpu : Cpu) (interrupts : Controller) (ends : List End) (memory : List (List ℕ)) (one other : CoreStepped) → (copies ≡ true → RefusesQuietly cpu interrupts ends memory one)
+    → (copies ≡ false → ends_caller other.act ≡ false → RefusesQuietly cpu interrupts ends memory other)
+    → ends_caller (cond copies one other).act ≡ false → RefusesQuietly cpu interrupts ends memory (cond copies one other)
+quiet-called true shape service cpu interrupts ends memory one other h k hears = h refl
+quiet-called false shape service cpu interrupts ends memory one other h k hears = k refl hears
 
 pub quiet_refusals : RefusalsAreQuiet
-quiet_refusals shape cpu interrupts ends memory all next is_built hears =
+unfolding core_step
+quiet_refusals shape cpu interrupts ends memory feed all next hears =
     let line = is_line_up shape.ports interrupts ends in
     let ready : Cpu = begun line cpu in
     let service = call_of (gpr_of ready.registers 11) in
-    let serves = instructs shape line ready interrupts ends memory next.undisturbed next.awake ∙ hypercall shape ready interrupts ends memory next.call in
+    let serves = instructs shape line ready interrupts ends memory feed next.undisturbed next.awake ∙ hypercall shape ready interrupts ends memory feed next.call in
     let registers : length ready.registers.gpr ≡ 32 = ap length (general line cpu) ∙ all in
-    let whole = core_whole shape cpu interrupts ends memory (λ e. is_built (ap (λ (d : CoreStepped). d.act) (core_nothing shape cpu interrupts ends memory e))) in
-    let heard : ends_caller (served shape.ports service ready interrupts ends).act ≡ false = sym (ap (λ (s : CoreStepped). ends_caller s.act) (whole ∙ serves)) ∙ hears in
-    let quiet : IsQuiet ready interrupts ends memory (served shape.ports service ready interrupts ends) = quiet-served shape.ports service ready interrupts ends memory registers heard in
-    subst (λ (s : CoreStepped). RefusesQuietly ready interrupts ends memory s) (sym (whole ∙ serves)) quiet
+    let heard : ends_caller (called shape service ready interrupts ends memory feed).act ≡ false = sym (ap (λ (s : CoreStepped). ends_caller s.act) serves) ∙ hears in
+    let quiet : RefusesQuietly ready interrupts ends memory (called shape service ready interrupts ends memory feed) =
+    quiet-called (is_copy service) shape service ready interrupts ends memory (copying shape (copy shape ready.registers memory) (asked_copy shape ready.registers memory) feed ready interrupts memory) (still (served shape.ports service ready interrupts ends) memory)
+    (λ _. quiet-copy shape feed ready interrupts ends memory registers) (λ _ hears. quiet-served shape.ports service ready interrupts ends memory registers hears) heard in
+    subst (λ (s : CoreStepped). RefusesQuietly ready interrupts ends memory s) (sym serves) quiet

@@ -1,11 +1,15 @@
 -- What the world outside does to the machine between two steps.
-use Rattle.std.specs.Prelude.{ℕ, Bool, true, List}
+use Rattle.std.specs.Prelude.{ℕ, Bool, true, List, [], ◌∷◌, map}
 use Rattle.machine_desc.specs.declared.act.State.TheVariants.{Stopped}
 use Rattle.machine_desc.specs.declared.desc.Desc.{Desc}
-use Rattle.partition.specs.Port.{come_on, freed_on, told_on}
+use Rattle.partition.specs.Regions.{areas_of}
+use Rattle.copy_lists.specs.Pieces.{Piece, span_of, all_put}
+use Rattle.partition.specs.Port.{End, come_on, freed_on, told_on, emptied}
 use Rattle.partition.specs.Interrupts.{bell_at, rung_by}
 use Rattle.partition.specs.Machine.{Machine}
 use Rattle.partition.specs.Anew.{started}
+use Rattle.partition.specs.Reservations.{with_copied}
+use Rattle.partition.specs.Copying.{own_regions}
 
 pub data Event : Type 0 where
   -- on this handle these bytes came
@@ -20,6 +24,8 @@ pub data Event : Type 0 where
   Start : ℕ → Bool → Event
   Stop : Event
   Restart : Event
+  -- its manager wrote this into its private memory
+  CopyIn : Piece → Event
 
 -- the machine after an event
 unfoldable pub apply : Desc → Machine → Event → Machine
@@ -32,3 +38,16 @@ apply desc machine (Tells handle runs) = record machine { ports = told_on machin
 apply desc machine (Start entry load) = started desc entry load machine
 apply desc machine Stop = record machine { inner = record machine.inner { state = Stopped } }
 apply desc machine Restart = started desc desc.entry true machine
+apply desc machine (CopyIn piece) = record machine {
+  inner = record machine.inner { cores = map (with_copied (span_of piece ∷ [])) machine.inner.cores };
+  memory = all_put (own_regions (areas_of desc.regions)) (piece ∷ []) machine.memory;
+}
+
+-- what it makes of the partition's ends
+abbrev pub ends_after : Event → List End → List End
+ends_after (Bytes handle bytes) ends = come_on ends handle bytes
+ends_after (Room handle count) ends = freed_on ends handle count
+ends_after (Tells handle runs) ends = told_on ends handle runs
+ends_after (Start entry load) ends = emptied ends
+ends_after Restart ends = emptied ends
+ends_after _ ends = ends

@@ -7,8 +7,11 @@ pub mod Interrupts
 pub mod Machine
 pub mod Anew
 pub mod Managing
+pub mod Reservations
+pub mod Copying
 pub mod Step
 pub mod Trail
+pub mod Asking
 pub mod Event
 pub mod Lending
 pub mod Calling
@@ -16,6 +19,5 @@ pub mod Refusal
 pub mod Acting
 pub mod Forgets
 pub mod Reached
-pub mod Reservations
 pub mod MemPorts
 pub mod Loading

@@ -4,7 +4,7 @@ use Rattle.guest_regs.specs.Registers.{Registers, gpr_of}
 use Rattle.machine_desc.specs.declared.act.State.TheVariants.{Running}
 use Rattle.vpic.specs.Controller.{Controller}
 use Rattle.partition.specs.Port.{End}
-use Rattle.partition.specs.Act.{NotBuilt, ports_after, ends_caller, state_after}
+use Rattle.partition.specs.Act.{ports_after, ends_caller, state_after}
 use Rattle.partition.specs.Interrupts.{is_line_up}
 use Rattle.partition.specs.Machine.{Cpu, Shape}
 use Rattle.partition.specs.Calling.{CallsNext}
@@ -37,11 +37,10 @@ abbrev pub RefusesQuietly : Cpu → Controller → List End → List (List ℕ) 
 RefusesQuietly cpu interrupts ends memory done =
     gpr_of done.cpu.registers 3 ≢ 0 → KeepsMost cpu interrupts memory done × (gpr_of done.cpu.registers 3 ≢ 4 → KeepsRest cpu ends done)
 
--- So it is of each core that calls the hypervisor next, for a service that is built, whose step has begun: its time has passed. A caller
--- that ends its own run hears no status.
+-- So it is of each core that calls the hypervisor next, whose step has begun: its time has passed. A caller that ends its own run hears
+-- no status.
 abbrev pub RefusalsAreQuiet : Type 0
 RefusalsAreQuiet =
-    (shape : Shape) (cpu : Cpu) (interrupts : Controller) (ends : List End) (memory : List (List ℕ)) → length cpu.registers.gpr ≡ 32
-    → CallsNext shape (is_line_up shape.ports interrupts ends) cpu memory
-    → (core_step shape cpu interrupts ends memory).act ≢ NotBuilt → ends_caller (core_step shape cpu interrupts ends memory).act ≡ false
-    → RefusesQuietly (begun (is_line_up shape.ports interrupts ends) cpu) interrupts ends memory (core_step shape cpu interrupts ends memory)
+    (shape : Shape) (cpu : Cpu) (interrupts : Controller) (ends : List End) (memory : List (List ℕ)) (feed : List ℕ) → length cpu.registers.gpr ≡ 32
+    → CallsNext shape (is_line_up shape.ports interrupts ends) cpu memory → ends_caller (core_step shape cpu interrupts ends memory feed).act ≡ false
+    → RefusesQuietly (begun (is_line_up shape.ports interrupts ends) cpu) interrupts ends memory (core_step shape cpu interrupts ends memory feed)

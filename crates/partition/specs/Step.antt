@@ -1,5 +1,5 @@
 -- One step of the machine.
-use Rattle.std.specs.Prelude.{ℕ, ◌+◌, Bool, true, not, ◌&&◌, ◌||◌, List, [], filter, slice_set, if◌then◌else◌}
+use Rattle.std.specs.Prelude.{ℕ, ◌+◌, Bool, true, false, not, ◌&&◌, ◌||◌, List, [], filter, slice_set, if◌then◌else◌}
 use Rattle.insn.specs.declared.instruction.Insn.{Insn}
 use Rattle.guest_regs.specs.State.{store_syndrome, order_syndrome}
 use Rattle.guest_regs.specs.Registers.{Registers, advanced, gpr_of, instruction_space, data_space}
@@ -26,10 +26,13 @@ use Rattle.partition.specs.Regions.{Area, area_at}
 use Rattle.partition.specs.Found.{found, lookup}
 use Rattle.partition.specs.Port.{End, kinds_of}
 use Rattle.partition.specs.Interrupts.{Ruled, levels, is_line_up, granted, doorbell_send, set_config, get_config, set_mask, get_mask, acknowledge, end_of_interrupt, set_task_priority, get_task_priority}
-use Rattle.partition.specs.Act.{Act, Nothing, SelfRestart, Faulted, NotBuilt, ports_after, ends_caller, state_after, steps_after}
+use Rattle.copy_lists.specs.Pieces.{all_put}
+use Rattle.partition.specs.Act.{Act, Nothing, SelfRestart, Faulted, ports_after, ends_caller, state_after}
 use Rattle.partition.specs.Machine.{Cpu, Machine, Shape, shape_of, core_at}
 use Rattle.partition.specs.Anew.{started}
 use Rattle.partition.specs.Managing.{start, stop, restart, get_status}
+use Rattle.partition.specs.Reservations.{with_copied}
+use Rattle.partition.specs.Copying.{own_regions, Copy, asked_copy, copy, copied_in, copied_at}
 
 -- What is left of a core and of the interrupt controller by something that sees no memory, and what others see of it. What it does to
 -- the partition's ends follows from that.
@@ -72,8 +75,8 @@ obeying served cpu interrupts = record {
   act = served.act;
 }
 
--- The services of the interrupt controller, whose sources with these numbers are up by their levels. A service that isn't built yet is
--- not done.
+-- The services of the interrupt controller, whose sources with these numbers are up by their levels. A token that names no service of
+-- this or the other tables is refused.
 unfoldable pub ruled : Call → ℕ → Cpu → Controller → Done
 ruled call.SetConfig levels cpu interrupts = ruling (set_config cpu.registers interrupts) cpu
 ruled call.GetConfig levels cpu interrupts = ruling (get_config cpu.registers interrupts) cpu
@@ -83,7 +86,7 @@ ruled call.Iack levels cpu interrupts = ruling (acknowledge levels interrupts) c
 ruled call.Eoi levels cpu interrupts = ruling (end_of_interrupt cpu.registers interrupts) cpu
 ruled call.SetTaskPriority levels cpu interrupts = ruling (set_task_priority cpu.registers interrupts) cpu
 ruled call.GetTaskPriority levels cpu interrupts = ruling (get_task_priority interrupts) cpu
-ruled _ levels cpu interrupts = record { cpu = cpu; interrupts = interrupts; act = NotBuilt }
+ruled _ levels cpu interrupts = answering (refusal Unimplemented) cpu interrupts
 
 -- The services for partitions and their managers.
 unfoldable pub managed : List Port → Call → Cpu → Controller → List End → Done
@@ -93,14 +96,13 @@ managed ports call.Restart cpu interrupts ends = obeying (restart ports cpu.regi
 managed ports call.GetStatus cpu interrupts ends = answering (get_status ports cpu.registers ends) cpu interrupts
 managed ports call cpu interrupts ends = ruled call (levels ports ends) cpu interrupts
 
--- By the service: a token that has none is refused.
+-- By the service, but that copying, which sees the memory, is a case of the instruction.
 unfoldable pub served : List Port → Call → Cpu → Controller → List End → Done
 served ports call.Send cpu interrupts ends = answering (send (kinds_of ports) cpu.registers ends) cpu interrupts
 served ports call.Receive cpu interrupts ends = answering (receive (kinds_of ports) cpu.registers ends) cpu interrupts
 served ports call.Poll cpu interrupts ends = answering (poll (kinds_of ports) cpu.registers ends) cpu interrupts
 served ports call.DoorbellSend cpu interrupts ends = answering (doorbell_send (kinds_of ports) cpu.registers) cpu interrupts
 served ports call.Idle cpu interrupts ends = answering granted (waiting cpu) interrupts
-served ports call.Unlisted cpu interrupts ends = answering (refusal Unimplemented) cpu interrupts
 served ports call cpu interrupts ends = managed ports call cpu interrupts ends
 
 -- ---- interrupts
@@ -125,6 +127,10 @@ abbrev pub found_for : List Area → Cpu → Bool → ℕ → Found
 found_for areas cpu space ea = found areas cpu.translations space cpu.registers.pid ea
 
 -- ---- the instruction
+
+abbrev pub is_copy : Call → Bool
+is_copy call.Memcpy = true
+is_copy _ = false
 
 -- a privileged instruction of the system
 unfoldable pub privileged : Insn → Cpu → Cpu
@@ -171,18 +177,41 @@ pub record CoreStepped : Type 0 where
 abbrev pub still : Done → List (List ℕ) → CoreStepped
 still done memory = record { cpu = done.cpu; interrupts = done.interrupts; memory = memory; act = done.act; stored = [] }
 
--- all of the step that sees the memory
-unfoldable pub instruction : Shape → Cpu → Controller → List End → List (List ℕ) → CoreStepped
-instruction shape cpu interrupts ends memory =
-    let did : core.Stepped = core.stepped (lookup shape.areas cpu.translations) cpu.registers memory in
-    let done : Done = handled shape did.answer (with_registers did.registers cpu) interrupts ends in
+-- the answer is a hypercall that asks to copy memory
+abbrev pub asks_copy : core.Answer → Registers → Bool
+asks_copy core.Hcall registers = is_copy (call_of (gpr_of registers 11))
+asks_copy _ registers = false
+
+-- what a copy writes into the caller's memory ends the caller's own reservation there
+abbrev pub copying : Shape → Served → Copy → List ℕ → Cpu → Controller → List (List ℕ) → CoreStepped
+copying shape served it feed cpu interrupts memory = record {
+  cpu = answered served.reply (with_copied (copied_at it) cpu);
+  interrupts = interrupts;
+  memory = all_put (own_regions shape.areas) (copied_in it feed) memory;
+  act = served.act;
+  stored = [];
+}
+
+-- what the instruction's answer comes to, which was given with this memory
+abbrev pub answering_to : Shape → core.Answer → Cpu → Controller → List End → List (List ℕ) → CoreStepped
+answering_to shape answer cpu interrupts ends memory =
+    let done : Done = handled shape answer cpu interrupts ends in
     record {
       cpu = done.cpu;
       interrupts = done.interrupts;
-      memory = did.memory;
+      memory = memory;
       act = done.act;
-      stored = shared_ranges shape.areas (written did.answer);
+      stored = shared_ranges shape.areas (written answer);
     }
+
+-- All of the step that sees the memory. The feed is what it copies out of a managed partition.
+unfoldable pub instruction : Shape → Cpu → Controller → List End → List (List ℕ) → List ℕ → CoreStepped
+instruction shape cpu interrupts ends memory feed =
+    let did : core.Stepped = core.stepped (lookup shape.areas cpu.translations) cpu.registers memory in
+    let left : Cpu = with_registers did.registers cpu in
+    if asks_copy did.answer did.registers
+    then copying shape (copy shape did.registers did.memory) (asked_copy shape did.registers did.memory) feed left interrupts did.memory
+    else answering_to shape did.answer left interrupts ends did.memory
 
 -- ---- the step
 
@@ -204,27 +233,16 @@ begun line cpu = with_registers (woken line (ticked cpu.registers)) cpu
 
 -- The rest of it: an interrupt that is pending is entered where MSR[EE] lets it; else a core that waits goes on waiting; else an
 -- instruction is done.
-unfoldable pub acted : Shape → Bool → Cpu → Controller → List End → List (List ℕ) → CoreStepped
-acted shape line cpu interrupts ends memory =
+unfoldable pub acted : Shape → Bool → Cpu → Controller → List End → List (List ℕ) → List ℕ → CoreStepped
+acted shape line cpu interrupts ends memory feed =
     if is_pending line cpu.registers && are_interrupts_enabled cpu.registers then still (quiet (entered (pending line) cpu) interrupts) memory
     else if cpu.registers.idle then still (quiet cpu interrupts) memory
-    else instruction shape cpu interrupts ends memory
-
--- what isn't built leaves the core, the controller and the memory as they were
-abbrev pub unless_unbuilt : Act → CoreStepped → CoreStepped → CoreStepped
-unless_unbuilt NotBuilt done nothing = nothing
-unless_unbuilt _ done nothing = done
-
--- a step that isn't built
-abbrev pub not_done : Cpu → Controller → List (List ℕ) → CoreStepped
-not_done cpu interrupts memory = still (record { cpu = cpu; interrupts = interrupts; act = NotBuilt }) memory
+    else instruction shape cpu interrupts ends memory feed
 
 -- the line is as it stands before the step
-unfoldable pub core_step : Shape → Cpu → Controller → List End → List (List ℕ) → CoreStepped
-core_step shape cpu interrupts ends memory =
-    let line = is_line_up shape.ports interrupts ends in
-    let done : CoreStepped = acted shape line (begun line cpu) interrupts ends memory in
-    unless_unbuilt done.act done (not_done cpu interrupts memory)
+unfoldable pub core_step : Shape → Cpu → Controller → List End → List (List ℕ) → List ℕ → CoreStepped
+core_step shape cpu interrupts ends memory feed =
+    let line = is_line_up shape.ports interrupts ends in acted shape line (begun line cpu) interrupts ends memory feed
 
 -- the machine after a step, what others see of it, and what it stored in shared regions, by the regions' places
 pub record Stepped : Type 0 where
@@ -239,7 +257,7 @@ with_step core done machine = record {
     cores = slice_set machine.inner.cores core done.cpu;
     interrupts = done.interrupts;
     state = state_after done.act;
-    steps = steps_after done.act machine.inner.steps;
+    steps = machine.inner.steps + 1;
   };
   ports = ports_after done.act machine.ports;
   memory = done.memory;
@@ -250,8 +268,8 @@ abbrev pub unless_restarting : Desc → Act → Machine → Machine
 unless_restarting desc SelfRestart machine = started desc desc.entry true machine
 unless_restarting desc _ machine = machine
 
--- One step of the core at this place. The feed is what the step copies out of a managed partition, and nothing until that is built.
+-- One step of the core at this place. The feed is what the step copies out of a managed partition (`asks` of Asking.antt).
 unfoldable pub step : Desc → Machine → ℕ → List ℕ → Stepped
 step desc machine core feed =
-    let done : CoreStepped = core_step (shape_of desc) (core_at machine.inner.cores core) machine.inner.interrupts machine.ports machine.memory in
+    let done : CoreStepped = core_step (shape_of desc) (core_at machine.inner.cores core) machine.inner.interrupts machine.ports machine.memory feed in
     record { after = unless_restarting desc done.act (with_step core done machine); act = done.act; stored = done.stored }

@@ -1,6 +1,6 @@
 //! The hypercalls of byte channels (ePAPR 1.1, chapter 7, byte channels), from registers and ports to a reply and an act.
 
-ghost use Rattle.std.specs.Prelude.{◌≡◌, ℕ, ◌+◌, ◌≤◌, List, [], Some, false, length, take, if◌then◌else◌};
+ghost use Rattle.std.specs.Prelude.{◌≡◌, ℕ, ◌+◌, ◌≤◌, List, [], Some, None, false, length, take, if◌then◌else◌};
 ghost use Rattle.guest_regs.specs.Registers.{gpr_of};
 ghost use Rattle.hcall_abi.specs.Reply.{reply_of};
 ghost use Rattle.partition.specs.Port.{kinds_of, kind_at, end_at};
@@ -21,7 +21,7 @@ const MOST_BYTES: u32 = 16;
 
 /// Answers by a status alone.
 pub fn refusal(status: Status) -> Served
-    ensures served { spec.refusal status ≡ record { reply = reply_of result.reply; act = act_of result.act } }
+    ensures served { spec.refusal status ≡ record { reply = reply_of result.reply; act = act_of [] result.act } }
     ensures quiet { result.act ≡ Act.None }
 {
     Served {
@@ -43,8 +43,8 @@ fn is_bad_transfer(handles: &[Port], regs: &Regs) -> bool
 #[tactic(auto, unfolding(crate::specs::Channels::send))]
 pub fn send<P: Ports>(handles: &[Port], regs: &Regs, ports: &mut P) -> Served
     requires kinds { P.kinds ports.old ≡ kinds_of handles.now }
-    ensures served { spec.send (kinds_of handles.now) regs.now (P.seen ports.old) ≡ record { reply = reply_of result.reply; act = act_of result.act } }
-    ensures lent { IsLent P.kinds P.seen P.sends P.takes result.act ports.old ports.new }
+    ensures served { spec.send (kinds_of handles.now) regs.now (P.seen ports.old) ≡ record { reply = reply_of result.reply; act = act_of [] result.act } }
+    ensures lent { (memory : List (List ℕ)) → IsLent P.kinds P.seen P.sends P.takes P.copies P.told P.last None memory result.act ports.old ports.new }
 {
     if is_bad_transfer(handles, regs) {
         return refusal(Status::InvalidArgument);
@@ -64,8 +64,8 @@ fn sending<P: Ports>(status: Status, handle: u32, count: u16, regs: &Regs, ports
     requires some { count ≤ 16 }
     requires channel { kind_at (P.kinds ports.old) handle ≡ Some Kind.Channel }
     requires room { (end_at (P.seen ports.old) handle).outstanding + count ≤ 256 }
-    ensures served { spec.sending status handle count regs.now ≡ record { reply = reply_of result.reply; act = act_of result.act } }
-    ensures lent { IsLent P.kinds P.seen P.sends P.takes result.act ports.old ports.new }
+    ensures served { spec.sending status handle count regs.now ≡ record { reply = reply_of result.reply; act = act_of [] result.act } }
+    ensures lent { (memory : List (List ℕ)) → IsLent P.kinds P.seen P.sends P.takes P.copies P.told P.last None memory result.act ports.old ports.new }
 {
     let reply = Reply::with(status, &[u32::from(count)]);
     let bytes = sent_bytes(regs, count as usize);
@@ -102,8 +102,8 @@ fn taken(waiting: u16, count: u32) -> u16
 #[tactic(auto, unfolding(crate::specs::Channels::receive))]
 pub fn receive<P: Ports>(handles: &[Port], regs: &Regs, ports: &mut P) -> Served
     requires kinds { P.kinds ports.old ≡ kinds_of handles.now }
-    ensures served { spec.receive (kinds_of handles.now) regs.now (P.seen ports.old) ≡ record { reply = reply_of result.reply; act = act_of result.act } }
-    ensures lent { IsLent P.kinds P.seen P.sends P.takes result.act ports.old ports.new }
+    ensures served { spec.receive (kinds_of handles.now) regs.now (P.seen ports.old) ≡ record { reply = reply_of result.reply; act = act_of [] result.act } }
+    ensures lent { (memory : List (List ℕ)) → IsLent P.kinds P.seen P.sends P.takes P.copies P.told P.last None memory result.act ports.old ports.new }
 {
     if is_bad_transfer(handles, regs) {
         return refusal(Status::InvalidArgument);
@@ -118,8 +118,8 @@ fn receiving<P: Ports>(handle: u32, count: u16, ports: &mut P) -> Served
     requires few { count ≤ 16 }
     requires channel { kind_at (P.kinds ports.old) handle ≡ Some Kind.Channel }
     requires there { count ≤ length (end_at (P.seen ports.old) handle).received }
-    ensures served { spec.receiving handle (take count (end_at (P.seen ports.old) handle).received) ≡ record { reply = reply_of result.reply; act = act_of result.act } }
-    ensures lent { IsLent P.kinds P.seen P.sends P.takes result.act ports.old ports.new }
+    ensures served { spec.receiving handle (take count (end_at (P.seen ports.old) handle).received) ≡ record { reply = reply_of result.reply; act = act_of [] result.act } }
+    ensures lent { (memory : List (List ℕ)) → IsLent P.kinds P.seen P.sends P.takes P.copies P.told P.last None memory result.act ports.old ports.new }
 {
     if count == 0 {
         return Served {
@@ -152,7 +152,7 @@ fn received(bytes: &[u8]) -> Reply
 #[tactic(auto, unfolding(crate::specs::Channels::poll))]
 pub fn poll<P: Ports>(handles: &[Port], regs: &Regs, ports: &P) -> Served
     requires kinds { P.kinds ports.now ≡ kinds_of handles.now }
-    ensures served { spec.poll (kinds_of handles.now) regs.now (P.seen ports.now) ≡ record { reply = reply_of result.reply; act = act_of result.act } }
+    ensures served { spec.poll (kinds_of handles.now) regs.now (P.seen ports.now) ≡ record { reply = reply_of result.reply; act = act_of [] result.act } }
     ensures quiet { result.act ≡ Act.None }
 {
     let handle = regs.gpr(3);

@@ -1,7 +1,7 @@
 //! One core of a partition: its step.
 
-ghost use Rattle.std.specs.Prelude.{◌≡◌, ◌+◌, ◌%◌, ◌≤◌, [], Some, IfOk, IsTrue, if◌then◌else◌};
-ghost use Rattle.ground.specs.Own.{own_of, KeepsForeign};
+ghost use Rattle.std.specs.Prelude.{◌≡◌, ℕ, ◌+◌, ◌%◌, ◌≤◌, List, [], None, IfOk, IsTrue, if◌then◌else◌};
+ghost use Rattle.ground.specs.Own.{own_of};
 ghost use Rattle.guest_regs.specs.Registers.{gpr_of};
 ghost use Rattle.core_step.specs.Access.{SameSizes};
 ghost use Rattle.core_step.specs.Step as core;
@@ -11,6 +11,7 @@ ghost use Rattle.vpic.specs.Controller.{Controller};
 ghost use Rattle.fresh_load.specs.Placed.{ArePlaced, extents_of};
 ghost use Rattle.hcall_abi.specs.Call.{call_of};
 ghost use Rattle.hcall_abi.specs.Reply.{reply_of};
+ghost use Rattle.copy_lists.specs.Pieces.{sources_of, targets_of};
 ghost use Rattle.partition.specs.Regions.{areas_of};
 ghost use Rattle.partition.specs.Found.{lookup_in};
 ghost use Rattle.partition.specs.Port.{kinds_of};
@@ -18,13 +19,16 @@ ghost use Rattle.partition.specs.Act as spec_act;
 ghost use Rattle.partition.specs.Act.{act_of};
 ghost use Rattle.partition.specs.Interrupts.{granted, levels};
 ghost use Rattle.partition.specs.Machine.{booted, shape_of};
-ghost use Rattle.partition.specs.Reservations.{with_kept};
+ghost use Rattle.partition.specs.Reservations.{with_kept, with_copied};
 ghost use Rattle.partition.specs.Step as spec;
-ghost use Rattle.partition.specs.Lending.{IsCoreStepped, IsLent, KeepsUnbuilt};
+ghost use Rattle.partition.specs.Copying.{asked_copy, copy};
+ghost use Rattle.partition.specs.Asking.{asked_by, with_total, copy_done, copy_in, copy_next};
+ghost use Rattle.partition.specs.Lending.{AreTold, IsCoreStepped, IsLent, KeepsOthers, pieces_of};
 
 use crate::acts::{Acts, shared_ranges};
 use crate::channels::{poll, receive, refusal, send};
-use crate::clock::{Clocks, begin, is_pending, pending};
+use crate::clock::{begin, is_entered, pending};
+use crate::copier::Copier;
 use crate::found::{Found, View, find};
 use crate::interrupts::{
     acknowledge, doorbell_send, end_of_interrupt, get_config, get_mask, get_task_priority,
@@ -32,9 +36,10 @@ use crate::interrupts::{
 };
 use crate::managing::{get_status, restart, start, stop};
 use crate::ports::Ports;
-use crate::reservations::is_stored_to;
+use crate::reservations::{is_copied_to, is_stored_to};
 use crate::served::Served;
 use arrayvec::ArrayVec;
+use copy_lists::{SgEntry, is_to_managed};
 use core_step::{Core, Hw, Wrote};
 use ground::Ground;
 use guest_regs::{boot, order_syndrome, store_syndrome};
@@ -45,7 +50,7 @@ use machine_desc::{Act, Desc, Region};
 use outside::NoMemory;
 use std::alloc::Global;
 use std::marker::Model;
-use trap_emulate::{Cause, Mmu, are_interrupts_enabled, deliver, emulate, may_enter};
+use trap_emulate::{Cause, Mmu, deliver, emulate, may_enter};
 use vpic::Vpic;
 
 /// A core with its translations. Contracts see the record `Cpu` of the machine's definition.
@@ -105,6 +110,17 @@ impl Cpu {
         }
     }
 
+    /// A copy by these entries wrote into the partition's memory, which ends a reservation of what was written.
+    pub fn copied(&mut self, entries: &[SgEntry])
+        ensures { self.new ≡ with_copied (targets_of entries.now) self.old }
+    {
+        if let Some(granule) = self.core.regs().reserved() {
+            if is_copied_to(entries, granule) {
+                self.core.regs_mut().set_reserved(None);
+            }
+        }
+    }
+
     /// The core that does its instructions.
     pub fn core(&self) -> &Core
         ensures { result.now.registers ≡ self.now.registers }
@@ -112,56 +128,36 @@ impl Cpu {
         &self.core
     }
 
-    /// Does one step: its time passes, and it enters an interrupt, waits, or does an instruction. Where that isn't built,
-    /// all is as before.
+    /// Does one step: its time passes, and it enters an interrupt, waits, or does an instruction.
     #[tactic(auto)]
     pub fn step<P: Ports>(
         &mut self,
         desc: &Desc,
+        copier: &mut Copier,
         vpic: &mut Vpic,
         ground: &mut Ground,
         ports: &mut P,
     ) -> Acts
         requires sound { IsSound desc.now }
+        requires map { copier.old.map ≡ desc.now.regions }
         requires placed { ArePlaced ground.old desc.now.regions }
         requires kinds { P.kinds ports.old ≡ kinds_of desc.now.ports }
-        ensures stepped { IsCoreStepped (extents_of desc.now.regions)
-            (spec.core_step (shape_of desc.now) self.old vpic.old (P.seen ports.old) (own_of (extents_of desc.now.regions) ground.old))
+        requires told { AreTold (P.told ports.old) desc.now ground.old }
+        ensures map { copier.new.map ≡ copier.old.map }
+        ensures stepped { let asked = asked_by desc.now.ports (copy_next (shape_of desc.now) self.old vpic.old (P.seen ports.old) (own_of (extents_of desc.now.regions) ground.old)) in
+            IsCoreStepped (extents_of desc.now.regions) (pieces_of desc.now.regions ground.new (P.last ports.new))
+            (spec.core_step (shape_of desc.now) self.old vpic.old (P.seen ports.old) (own_of (extents_of desc.now.regions) ground.old)
+            (P.feed ports.old ground.old asked.handle asked.ranges))
             self.new vpic.new ground.new result.act result.shared.items }
-        ensures kept { KeepsUnbuilt result.act self.old self.new }
-        ensures interrupts { KeepsUnbuilt result.act vpic.old vpic.new }
-        ensures memory { KeepsUnbuilt result.act ground.old ground.new }
-        ensures others { KeepsForeign (extents_of desc.now.regions) ground.old ground.new }
+        ensures others { KeepsOthers (P.told ports.old) desc.now.regions (P.last ports.new) result.act ground.old ground.new }
         ensures sizes { SameSizes ground.old ground.new }
-        ensures lent { IsLent P.kinds P.seen P.sends P.takes result.act ports.old ports.new }
+        ensures lent { IsLent P.kinds P.seen P.sends P.takes P.copies P.told P.last
+            (copy_next (shape_of desc.now) self.old vpic.old (P.seen ports.old) (own_of (extents_of desc.now.regions) ground.old))
+            ground.old result.act ports.old ports.new }
     {
         let line = is_line_up(desc, vpic, ports);
-        let clocks = self.clocks();
         self.begin(line);
-        let acts = self.act(line, desc, vpic, ground, ports);
-        match acts.act {
-            Act::NotBuilt => {
-                self.take_back(clocks);
-                only(Act::NotBuilt)
-            }
-            _ => acts,
-        }
-    }
-
-    /// The clocks before the step.
-    fn clocks(&self) -> Clocks
-        ensures { result ≡ record { time = self.now.registers.time; dec = self.now.registers.dec; tsr = self.now.registers.tsr; idle = self.now.registers.idle } }
-    {
-        Clocks::of(self.core.regs())
-    }
-
-    /// Takes the beginning of a step back.
-    fn take_back(&mut self, clocks: Clocks)
-        ensures { self.new ≡ record self.old {
-          registers = record self.old.registers { time = clocks.time; dec = clocks.dec; tsr = clocks.tsr; idle = clocks.idle };
-        } }
-    {
-        clocks.restore(self.core.regs_mut());
+        self.act(line, desc, copier, vpic, ground, ports)
     }
 
     /// Lets the step's time pass.
@@ -178,55 +174,122 @@ impl Cpu {
         &mut self,
         line: bool,
         desc: &Desc,
+        copier: &mut Copier,
         vpic: &mut Vpic,
         ground: &mut Ground,
         ports: &mut P,
     ) -> Acts
         requires sound { IsSound desc.now }
+        requires map { copier.old.map ≡ desc.now.regions }
         requires placed { ArePlaced ground.old desc.now.regions }
         requires kinds { P.kinds ports.old ≡ kinds_of desc.now.ports }
-        ensures acted { IsCoreStepped (extents_of desc.now.regions)
-            (spec.acted (shape_of desc.now) line self.old vpic.old (P.seen ports.old) (own_of (extents_of desc.now.regions) ground.old))
+        requires told { AreTold (P.told ports.old) desc.now ground.old }
+        ensures map { copier.new.map ≡ copier.old.map }
+        ensures acted { let asked = asked_by desc.now.ports (copy_in (shape_of desc.now) line self.old (own_of (extents_of desc.now.regions) ground.old)) in
+            IsCoreStepped (extents_of desc.now.regions) (pieces_of desc.now.regions ground.new (P.last ports.new))
+            (spec.acted (shape_of desc.now) line self.old vpic.old (P.seen ports.old) (own_of (extents_of desc.now.regions) ground.old)
+            (P.feed ports.old ground.old asked.handle asked.ranges))
             self.new vpic.new ground.new result.act result.shared.items }
-        ensures memory { KeepsUnbuilt result.act ground.old ground.new }
-        ensures others { KeepsForeign (extents_of desc.now.regions) ground.old ground.new }
+        ensures others { KeepsOthers (P.told ports.old) desc.now.regions (P.last ports.new) result.act ground.old ground.new }
         ensures sizes { SameSizes ground.old ground.new }
-        ensures lent { IsLent P.kinds P.seen P.sends P.takes result.act ports.old ports.new }
+        ensures lent { IsLent P.kinds P.seen P.sends P.takes P.copies P.told P.last
+            (copy_in (shape_of desc.now) line self.old (own_of (extents_of desc.now.regions) ground.old))
+            ground.old result.act ports.old ports.new }
     {
-        let regs = self.core.regs();
-        if is_pending(line, regs) && are_interrupts_enabled(regs) {
+        if is_entered(line, self.core.regs()) {
             self.enter(pending(line));
             return only(Act::None);
         }
-        if regs.idle() {
+        if self.core.regs().idle() {
             return only(Act::None);
         }
-        self.instruct(desc, vpic, ground, ports)
+        self.instruct(desc, copier, vpic, ground, ports)
     }
 
     /// Does an instruction, and what comes of it.
     fn instruct<P: Ports>(
         &mut self,
         desc: &Desc,
+        copier: &mut Copier,
         vpic: &mut Vpic,
         ground: &mut Ground,
         ports: &mut P,
     ) -> Acts
         requires sound { IsSound desc.now }
+        requires map { copier.old.map ≡ desc.now.regions }
         requires placed { ArePlaced ground.old desc.now.regions }
         requires kinds { P.kinds ports.old ≡ kinds_of desc.now.ports }
-        ensures done { IsCoreStepped (extents_of desc.now.regions)
-            (spec.instruction (shape_of desc.now) self.old vpic.old (P.seen ports.old) (own_of (extents_of desc.now.regions) ground.old))
+        requires told { AreTold (P.told ports.old) desc.now ground.old }
+        ensures map { copier.new.map ≡ copier.old.map }
+        ensures done { let asked = asked_by desc.now.ports (copy_done (shape_of desc.now) self.old (own_of (extents_of desc.now.regions) ground.old)) in
+            IsCoreStepped (extents_of desc.now.regions) (pieces_of desc.now.regions ground.new (P.last ports.new))
+            (spec.instruction (shape_of desc.now) self.old vpic.old (P.seen ports.old) (own_of (extents_of desc.now.regions) ground.old)
+            (P.feed ports.old ground.old asked.handle asked.ranges))
             self.new vpic.new ground.new result.act result.shared.items }
-        ensures memory { KeepsUnbuilt result.act ground.old ground.new }
-        ensures others { KeepsForeign (extents_of desc.now.regions) ground.old ground.new }
+        ensures others { KeepsOthers (P.told ports.old) desc.now.regions (P.last ports.new) result.act ground.old ground.new }
         ensures sizes { SameSizes ground.old ground.new }
-        ensures lent { IsLent P.kinds P.seen P.sends P.takes result.act ports.old ports.new }
+        ensures lent { IsLent P.kinds P.seen P.sends P.takes P.copies P.told P.last
+            (copy_done (shape_of desc.now) self.old (own_of (extents_of desc.now.regions) ground.old))
+            ground.old result.act ports.old ports.new }
     {
         let answer = self.execute(desc, ground);
+        if self.asks_copy(&answer) {
+            return only(self.copy(desc, copier, ground, ports));
+        }
         let shared = shared_ranges(desc.regions.as_slice(), &answer);
         let act = self.handle(desc, answer, vpic, ports);
         Acts { act, shared }
+    }
+
+    /// Whether the instruction's answer is a hypercall that asks to copy memory.
+    fn asks_copy(&self, answer: &Hw) -> bool
+        ensures { result ≡ spec.asks_copy (core.answered answer.now) self.now.registers }
+    {
+        match answer {
+            Hw::Hcall => matches!(Call::of(self.core.regs()), Call::Memcpy),
+            _ => false,
+        }
+    }
+
+    /// Does the copy that the registers ask for. What comes out of a managed partition ends the core's reservation of the
+    /// bytes that it goes to.
+    fn copy<P: Ports>(
+        &mut self,
+        desc: &Desc,
+        copier: &mut Copier,
+        ground: &mut Ground,
+        ports: &mut P,
+    ) -> Act
+        requires sound { IsSound desc.now }
+        requires map { copier.old.map ≡ desc.now.regions }
+        requires placed { ArePlaced ground.old desc.now.regions }
+        requires kinds { P.kinds ports.old ≡ kinds_of desc.now.ports }
+        requires told { AreTold (P.told ports.old) desc.now ground.old }
+        ensures map { copier.new.map ≡ copier.old.map }
+        ensures copied { let it = asked_copy (shape_of desc.now) self.old.registers (own_of (extents_of desc.now.regions) ground.old) in
+            (interrupts : Controller) → IsCoreStepped (extents_of desc.now.regions) (pieces_of desc.now.regions ground.new (P.last ports.new))
+            (spec.copying (shape_of desc.now) (copy (shape_of desc.now) self.old.registers (own_of (extents_of desc.now.regions) ground.old)) it
+            (P.feed ports.old ground.old it.handle (sources_of it.entries)) self.old interrupts (own_of (extents_of desc.now.regions) ground.old))
+            self.new interrupts ground.new result [] }
+        ensures others { KeepsOthers (P.told ports.old) desc.now.regions (P.last ports.new) result ground.old ground.new }
+        ensures sizes { SameSizes ground.old ground.new }
+        ensures lent { let it = asked_copy (shape_of desc.now) self.old.registers (own_of (extents_of desc.now.regions) ground.old) in
+            IsLent P.kinds P.seen P.sends P.takes P.copies P.told P.last (with_total it) ground.old result ports.old ports.new }
+    {
+        let to_managed = is_to_managed(self.core.regs());
+        let served = copier.copy(desc, self.core.regs(), ground, ports);
+        self.lose_copied(to_managed, copier);
+        self.answer(served)
+    }
+
+    /// A reservation is lost where a copy out of a managed partition wrote.
+    #[tactic(auto, using(crate::proofs::Copies::nothing_copied))]
+    fn lose_copied(&mut self, to_managed: bool, copier: &Copier)
+        ensures { self.new ≡ with_copied (if to_managed then [] else targets_of copier.now.list) self.old }
+    {
+        if !to_managed {
+            self.copied(copier.entries());
+        }
     }
 
     /// Does as much of an instruction as is the core's.
@@ -255,8 +318,8 @@ impl Cpu {
         requires sound { IsSound desc.now }
         requires kinds { P.kinds ports.old ≡ kinds_of desc.now.ports }
         ensures handled { spec.handled (shape_of desc.now) (core.answered answer) self.old vpic.old (P.seen ports.old)
-            ≡ record { cpu = self.new; interrupts = vpic.new; act = act_of result } }
-        ensures lent { IsLent P.kinds P.seen P.sends P.takes result ports.old ports.new }
+            ≡ record { cpu = self.new; interrupts = vpic.new; act = act_of [] result } }
+        ensures lent { (memory : List (List ℕ)) → IsLent P.kinds P.seen P.sends P.takes P.copies P.told P.last None memory result ports.old ports.new }
     {
         match answer {
             Hw::Retired(_) | Hw::Waiting => Act::None,
@@ -350,8 +413,8 @@ impl Cpu {
         requires sound { IsSound desc.now }
         requires kinds { P.kinds ports.old ≡ kinds_of desc.now.ports }
         ensures served { let asked = call_of (gpr_of self.old.registers 11) in
-            spec.served desc.now.ports asked self.old vpic.old (P.seen ports.old) ≡ record { cpu = self.new; interrupts = vpic.new; act = act_of result } }
-        ensures lent { IsLent P.kinds P.seen P.sends P.takes result ports.old ports.new }
+            spec.served desc.now.ports asked self.old vpic.old (P.seen ports.old) ≡ record { cpu = self.new; interrupts = vpic.new; act = act_of [] result } }
+        ensures lent { (memory : List (List ℕ)) → IsLent P.kinds P.seen P.sends P.takes P.copies P.told P.last None memory result ports.old ports.new }
     {
         let handles = desc.ports.as_slice();
         match Call::of(self.core.regs()) {
@@ -372,7 +435,6 @@ impl Cpu {
                 self.answer(served)
             }
             Call::Idle => self.wait(),
-            Call::Unlisted => self.answer(refusal(Status::Unimplemented)),
             call => self.manage(call, desc, vpic, ports),
         }
     }
@@ -383,8 +445,8 @@ impl Cpu {
         requires sound { IsSound desc.now }
         requires kinds { P.kinds ports.now ≡ kinds_of desc.now.ports }
         ensures managed { spec.managed desc.now.ports call self.old vpic.old (P.seen ports.now)
-            ≡ record { cpu = self.new; interrupts = vpic.new; act = act_of result } }
-        ensures lent { IsLent P.kinds P.seen P.sends P.takes result ports.now ports.now }
+            ≡ record { cpu = self.new; interrupts = vpic.new; act = act_of [] result } }
+        ensures lent { (memory : List (List ℕ)) → IsLent P.kinds P.seen P.sends P.takes P.copies P.told P.last None memory result ports.now ports.now }
     {
         match call {
             Call::Start => {
@@ -409,8 +471,8 @@ impl Cpu {
 
     /// Answers the caller, unless it ended its own run: then it hears no reply.
     fn obey(&mut self, served: Served) -> Act
-        ensures obeyed { (interrupts : Controller) → spec.obeying (record { reply = reply_of served.reply; act = act_of served.act }) self.old interrupts
-            ≡ record { cpu = self.new; interrupts = interrupts; act = act_of result } }
+        ensures obeyed { (interrupts : Controller) → spec.obeying (record { reply = reply_of served.reply; act = act_of [] served.act }) self.old interrupts
+            ≡ record { cpu = self.new; interrupts = interrupts; act = act_of [] result } }
         ensures act { result ≡ served.act }
     {
         match &served.act {
@@ -429,14 +491,14 @@ impl Cpu {
         act
     }
 
-    /// Does a call of the interrupt controller. Other services aren't built yet.
+    /// Does a call of the interrupt controller. A token that has no service is refused.
     #[tactic(auto, unfolding(crate::specs::Step::ruled))]
     fn rule<P: Ports>(&mut self, call: Call, desc: &Desc, vpic: &mut Vpic, ports: &P) -> Act
         requires sound { IsSound desc.now }
         requires kinds { P.kinds ports.now ≡ kinds_of desc.now.ports }
         ensures ruled { spec.ruled call (levels desc.now.ports (P.seen ports.now)) self.old vpic.old
-            ≡ record { cpu = self.new; interrupts = vpic.new; act = act_of result } }
-        ensures lent { IsLent P.kinds P.seen P.sends P.takes result ports.now ports.now }
+            ≡ record { cpu = self.new; interrupts = vpic.new; act = act_of [] result } }
+        ensures lent { (memory : List (List ℕ)) → IsLent P.kinds P.seen P.sends P.takes P.copies P.told P.last None memory result ports.now ports.now }
     {
         let regs = self.core.regs();
         let reply = match call {
@@ -448,7 +510,7 @@ impl Cpu {
             Call::Eoi => end_of_interrupt(vpic, regs),
             Call::SetTaskPriority => set_task_priority(vpic, regs),
             Call::GetTaskPriority => get_task_priority(vpic),
-            _ => return Act::NotBuilt,
+            _ => return self.answer(refusal(Status::Unimplemented)),
         };
         self.answer(Served {
             reply,

@@ -1,7 +1,7 @@
 //! Interrupts of a partition: which sources are up, the line from the controller to the core, and the hypercalls of the
 //! controller and of doorbells (ePAPR 1.1, chapter 7).
 
-ghost use Rattle.std.specs.Prelude.{◌≡◌, ◌<◌, ◌≤◌, Some, max, bit_and};
+ghost use Rattle.std.specs.Prelude.{◌≡◌, ◌<◌, ◌≤◌, Some, max, bit_and, []};
 ghost use Rattle.hcall_abi.specs.Reply.{reply_of};
 ghost use Rattle.machine_desc.specs.Sound.{IsSound};
 ghost use Rattle.partition.specs.Port.{kinds_of, kind_of, kind_at, end_at};
@@ -143,7 +143,7 @@ pub fn bell_at(handles: &[Port], handle: u32) -> Option<u8>
 /// Rings the doorbell that r3 names.
 #[tactic(auto, unfolding(crate::specs::Interrupts::doorbell_send))]
 pub fn doorbell_send(handles: &[Port], regs: &Regs) -> Served
-    ensures served { spec.doorbell_send (kinds_of handles.now) regs.now ≡ record { reply = reply_of result.reply; act = act_of result.act } }
+    ensures served { spec.doorbell_send (kinds_of handles.now) regs.now ≡ record { reply = reply_of result.reply; act = act_of [] result.act } }
     ensures handle { HasHandle (kinds_of handles.now) result.act }
     ensures entry { HasEntry result.act }
     ensures quiet { IsQuiet result.act }

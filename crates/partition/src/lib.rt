@@ -17,6 +17,7 @@
 mod acts;
 mod channels;
 mod clock;
+mod copier;
 mod cpu;
 mod found;
 mod handles;

@@ -32,7 +32,7 @@ fn runs<P: Ports>(desc: &Desc, handle: u32, ports: &P) -> bool
 }
 
 /// The answer to a call that is done, and what it does.
-fn commanding(act: Act) -> Served
+pub fn commanding(act: Act) -> Served
     ensures reply { reply_of result.reply ≡ (granted).reply }
     ensures act { result.act ≡ act }
 {
@@ -43,7 +43,7 @@ fn commanding(act: Act) -> Served
 }
 
 /// The answer to a call that is refused by the status of this number.
-fn refusing(status: u32) -> Served
+pub fn refusing(status: u32) -> Served
     ensures reply { reply_of result.reply ≡ record { status = status; outs = [] } }
     ensures act { result.act ≡ Act.None }
 {
@@ -67,7 +67,7 @@ fn own_or(handle: u32, own: Act, managed: Act) -> Act
 #[tactic(auto, unfolding(crate::specs::Managing::start))]
 pub fn start<P: Ports>(desc: &Desc, regs: &Regs, ports: &P) -> Served
     requires kinds { P.kinds ports.now ≡ kinds_of desc.now.ports }
-    ensures served { spec.start desc.now.ports regs.now (P.seen ports.now) ≡ record { reply = reply_of result.reply; act = act_of result.act } }
+    ensures served { spec.start desc.now.ports regs.now (P.seen ports.now) ≡ record { reply = reply_of result.reply; act = act_of [] result.act } }
     ensures handle { HasHandle (kinds_of desc.now.ports) result.act }
     ensures entry { HasEntry result.act }
     ensures quiet { IsQuiet result.act }
@@ -88,7 +88,7 @@ pub fn start<P: Ports>(desc: &Desc, regs: &Regs, ports: &P) -> Served
 #[tactic(auto, unfolding(crate::specs::Managing::stop))]
 pub fn stop<P: Ports>(desc: &Desc, regs: &Regs, ports: &P) -> Served
     requires kinds { P.kinds ports.now ≡ kinds_of desc.now.ports }
-    ensures served { spec.stop desc.now.ports regs.now (P.seen ports.now) ≡ record { reply = reply_of result.reply; act = act_of result.act } }
+    ensures served { spec.stop desc.now.ports regs.now (P.seen ports.now) ≡ record { reply = reply_of result.reply; act = act_of [] result.act } }
     ensures handle { HasHandle (kinds_of desc.now.ports) result.act }
     ensures entry { HasEntry result.act }
     ensures quiet { IsQuiet result.act }
@@ -104,7 +104,7 @@ pub fn stop<P: Ports>(desc: &Desc, regs: &Regs, ports: &P) -> Served
 #[tactic(auto, unfolding(crate::specs::Managing::restart))]
 pub fn restart<P: Ports>(desc: &Desc, regs: &Regs, ports: &P) -> Served
     requires kinds { P.kinds ports.now ≡ kinds_of desc.now.ports }
-    ensures served { spec.restart desc.now.ports regs.now (P.seen ports.now) ≡ record { reply = reply_of result.reply; act = act_of result.act } }
+    ensures served { spec.restart desc.now.ports regs.now (P.seen ports.now) ≡ record { reply = reply_of result.reply; act = act_of [] result.act } }
     ensures handle { HasHandle (kinds_of desc.now.ports) result.act }
     ensures entry { HasEntry result.act }
     ensures quiet { IsQuiet result.act }
@@ -120,7 +120,7 @@ pub fn restart<P: Ports>(desc: &Desc, regs: &Regs, ports: &P) -> Served
 #[tactic(auto, unfolding(crate::specs::Managing::get_status))]
 pub fn get_status<P: Ports>(desc: &Desc, regs: &Regs, ports: &P) -> Served
     requires kinds { P.kinds ports.now ≡ kinds_of desc.now.ports }
-    ensures served { spec.get_status desc.now.ports regs.now (P.seen ports.now) ≡ record { reply = reply_of result.reply; act = act_of result.act } }
+    ensures served { spec.get_status desc.now.ports regs.now (P.seen ports.now) ≡ record { reply = reply_of result.reply; act = act_of [] result.act } }
     ensures none { result.act ≡ Act.None }
 {
     let handle = regs.gpr(3);

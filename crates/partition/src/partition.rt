@@ -1,29 +1,35 @@
 //! A partition: its machine but for its memory and for the ends of its channels, which it is lent.
 
-ghost use Rattle.std.specs.Prelude.{◌≡◌, ℕ, ◌%◌, ◌<◌, ◌≤◌, ◌↔◌, true, List, length, map, slice_set, IfOk, IfSome};
+ghost use Rattle.std.specs.Prelude.{◌≡◌, ℕ, ◌+◌, ◌%◌, ◌<◌, ◌≤◌, true, false, List, [], ◌∷◌, length, map, slice_set, IfOk, IfSome, IsTrue};
 ghost use Rattle.std.specs.List.{range_with_len};
-ghost use Rattle.ground.specs.Own.{own_of, KeepsForeign};
+ghost use Rattle.ground.specs.Extents.{extent_at};
+ghost use Rattle.ground.specs.Own.{own_of};
 ghost use Rattle.core_step.specs.Access.{SameSizes};
+ghost use Rattle.machine_desc.specs.Private.{is_private_range};
 ghost use Rattle.machine_desc.specs.Sound.{IsSound};
-ghost use Rattle.fresh_load.specs.Placed.{ArePlaced, extents_of};
+ghost use Rattle.fresh_load.specs.Placed.{ArePlaced, extents_of, is_private_extent};
+ghost use Rattle.copy_lists.specs.Moving.{put};
+ghost use Rattle.copy_lists.specs.Pieces.{targets_of};
 ghost use Rattle.partition.specs.Port.{End, emptied, kinds_of};
-ghost use Rattle.partition.specs.Act.{act_of, called, settled, state_after, steps_after};
+ghost use Rattle.partition.specs.Act.{act_of, settled, state_after};
 ghost use Rattle.partition.specs.Machine.{most_steps, booted, fresh_inner, shape_of, core_at, place_in};
 ghost use Rattle.partition.specs.Anew.{started_inner};
-ghost use Rattle.partition.specs.Calling.{IsUnbuilt};
-ghost use Rattle.partition.specs.Event.{Ring, Start, Restart, apply};
-ghost use Rattle.partition.specs.Reservations.{with_kept};
+ghost use Rattle.partition.specs.Asking.{asks, next_copy};
+ghost use Rattle.partition.specs.Event.{Ring, Start, Restart, apply, ends_after};
+ghost use Rattle.partition.specs.Reservations.{with_kept, with_copied};
 ghost use Rattle.partition.specs.Step as spec;
-ghost use Rattle.partition.specs.Lending.{Part, machine_of, Did, HasBytes, HasEntry, HasHandle, IsCoreStepped, IsStepped, KeepsUnbuilt, Reloads, inner_after, restarts};
+ghost use Rattle.partition.specs.Lending.{Part, machine_of, AreTold, EventFits, IsCoreStepped, IsLent, IsStepped, KeepsOthers, Reloads, event_of, inner_after, pieces_of, restarts};
 
 use crate::acts::Acts;
+use crate::copier::Copier;
 use crate::cpu::Cpu;
 use crate::interrupts::{bell_at, interrupt_count};
 use crate::ports::Ports;
+use copy_lists::{SgEntry, SgList};
 use core_step::{Core, Wrote};
 use fresh_load::reload;
 use ground::Ground;
-use machine_desc::{Act, Desc, Region, State};
+use machine_desc::{Act, Desc, Event, Region, State};
 use outside::NoMemory;
 use std::alloc::Global;
 use std::marker::Model;
@@ -35,6 +41,7 @@ use vpic::Vpic;
 pub struct Partition {
     desc: Desc,
     cores: Vec<Cpu>,
+    copier: Copier,
     vpic: Vpic,
     state: State,
     steps: u64,
@@ -54,7 +61,7 @@ impl Model for Partition {
     } };
 
     ghost invariant = { λ part.
-        IsSound part.desc × (length part.cores.items ≡ length part.desc.cores) × (length part.vpic.sources ≡ interrupt_count part.desc.ports) };
+        IsSound part.desc × (part.copier.map ≡ part.desc.regions) × (length part.cores.items ≡ length part.desc.cores) × (length part.vpic.sources ≡ interrupt_count part.desc.ports) };
 }
 
 impl Partition {
@@ -73,9 +80,11 @@ impl Partition {
             State::Running
         };
         let vpic = Vpic::new(interrupt_count(&desc));
+        let copier = Copier::new(alloc, &desc)?;
         Ok(Partition {
             desc,
             cores,
+            copier,
             vpic,
             state,
             steps: 0,
@@ -121,41 +130,32 @@ impl Partition {
     }
 
     /// Does one step of the core at this place, over the real memory and with the ends of the partition's channels. The
-    /// machine does what is defined of it, and no byte outside the extents of its regions changes.
+    /// machine does what is defined of it, and no byte outside the extents of its regions changes but what it copies into a
+    /// partition that it manages, where the ports tell its memory. What it copies out of one the ports have.
     ///
     /// Of the ends of what its handles name it changes what it sends and takes. What its commands make of the partitions
     /// that it manages, and what it received before it restarted itself, is up to those who lend them.
-    ///
-    /// `NotBuilt` comes exactly for a hypercall with MSR[PR] clear whose token is that of a service that isn't built yet;
-    /// then all is as before.
     pub fn step<P: Ports>(&mut self, core: usize, ground: &mut Ground, ports: &mut P) -> Acts
         requires core { core < length self.old.inner.cores }
         requires running { self.old.inner.state ≡ State.Running }
         requires few { self.old.inner.steps < most_steps }
         requires placed { ArePlaced ground.old self.old.desc.regions }
         requires kinds { P.kinds ports.old ≡ kinds_of self.old.desc.ports }
-        ensures stepped { (feed : List ℕ) → IsStepped (extents_of self.old.desc.regions)
-            (spec.step self.old.desc (machine_of self.old (P.seen ports.old) ground.old) core feed)
-            (machine_of self.new (settled (act_of result.act) (P.seen ports.new)) ground.new) result.act result.shared.items }
-        ensures unbuilt { result.act ≡ Act.NotBuilt
-            ↔ IsUnbuilt (shape_of self.old.desc) (core_at self.old.inner.cores core) self.old.inner.interrupts (P.seen ports.old)
-            (own_of (extents_of self.old.desc.regions) ground.old) }
+        requires told { AreTold (P.told ports.old) self.old.desc ground.old }
+        ensures stepped { let asked = asks self.old.desc (machine_of self.old (P.seen ports.old) ground.old) core in
+            IsStepped (extents_of self.old.desc.regions) (pieces_of self.old.desc.regions ground.new (P.last ports.new))
+            (spec.step self.old.desc (machine_of self.old (P.seen ports.old) ground.old) core (P.feed ports.old ground.old asked.handle asked.ranges))
+            (machine_of self.new (settled (act_of [] result.act) (P.seen ports.new)) ground.new) result.act result.shared.items }
         // What else others know of a step.
         ensures desc { self.new.desc ≡ self.old.desc }
         ensures cores { length self.new.inner.cores ≡ length self.old.inner.cores }
-        ensures state { self.new.inner.state ≡ state_after (act_of result.act) }
-        ensures counted { self.new.inner.steps ≡ steps_after (act_of result.act) self.old.inner.steps }
-        ensures kept { KeepsUnbuilt result.act self.old self.new }
-        ensures memory { KeepsUnbuilt result.act ground.old ground.new }
-        ensures others { KeepsForeign (extents_of self.old.desc.regions) ground.old ground.new }
+        ensures state { self.new.inner.state ≡ state_after (act_of [] result.act) }
+        ensures counted { self.new.inner.steps ≡ self.old.inner.steps + 1 }
+        ensures others { KeepsOthers (P.told ports.old) self.old.desc.regions (P.last ports.new) result.act ground.old ground.new }
         ensures sizes { SameSizes ground.old ground.new }
         ensures placed { ArePlaced ground.new self.new.desc.regions }
-        ensures bytes { HasBytes result.act }
-        ensures entry { HasEntry result.act }
-        ensures handle { HasHandle (kinds_of self.old.desc.ports) result.act }
-        ensures seen { P.seen ports.new ≡ called (act_of result.act) (P.seen ports.old) }
-        ensures same { P.kinds ports.new ≡ P.kinds ports.old }
-        ensures did { Did P.sends P.takes result.act ports.old ports.new }
+        ensures lent { IsLent P.kinds P.seen P.sends P.takes P.copies P.told P.last (next_copy self.old.desc (machine_of self.old (P.seen ports.old) ground.old) core)
+            ground.old result.act ports.old ports.new }
     {
         let acts = self.step_core(core, ground, ports);
         self.settle(&acts.act, ground);
@@ -206,6 +206,8 @@ impl Partition {
     #[tactic(auto, unfolding(crate::specs::Event::apply))]
     pub fn ring(&mut self, h: u32)
         ensures desc { self.new.desc ≡ self.old.desc }
+        ensures steps { self.new.inner.steps ≡ self.old.inner.steps }
+        ensures cores { length self.new.inner.cores ≡ length self.old.inner.cores }
         ensures rung { (ends : List End) (memory : List (List ℕ)) → machine_of self.new ends memory ≡ apply self.old.desc (machine_of self.old ends memory) (Ring h) }
     {
         if let Some(irq) = bell_at(self.desc.ports.as_slice(), h) {
@@ -222,14 +224,65 @@ impl Partition {
         written_all(&mut self.cores, self.desc.regions.as_slice(), stored);
     }
 
+    /// A copy by the list wrote into its private memory: a reservation whose granule has a byte of that is lost.
+    pub fn copied(&mut self, list: &SgList)
+        ensures { self.new ≡ record self.old {
+          inner = record self.old.inner { cores = map (with_copied (targets_of list.now)) self.old.inner.cores };
+        } }
+    {
+        copied_all(&mut self.cores, list.as_slice());
+    }
+
+    /// Does its share of what happens to it between two steps, but for its ends: what comes on a channel, what is taken there
+    /// and what becomes of a partition that it manages is up to those who lend them. Shared regions stay, and no byte outside
+    /// its private ones changes. Takes no memory.
+    #[tactic(auto, unfolding(crate::specs::Event::apply))]
+    pub fn apply(&mut self, event: Event, ground: &mut Ground)
+        requires fits { EventFits self.old.desc event }
+        requires placed { ArePlaced ground.old self.old.desc.regions }
+        ensures applied { (ends : List End) → machine_of self.new (ends_after (event_of event.entry) ends) ground.new
+            ≡ apply self.old.desc (machine_of self.old ends ground.old) (event_of event.entry) }
+        ensures desc { self.new.desc ≡ self.old.desc }
+        ensures steps { self.new.inner.steps ≡ self.old.inner.steps }
+        ensures cores { length self.new.inner.cores ≡ length self.old.inner.cores }
+        ensures others { (extent : ℕ) → is_private_extent self.old.desc.regions extent ≡ false → extent_at ground.new extent ≡ extent_at ground.old extent }
+        ensures placed { ArePlaced ground.new self.new.desc.regions }
+    {
+        match event {
+            Event::Bytes { .. } | Event::Room { .. } | Event::State { .. } => {}
+            Event::Ring { h } => self.ring(h),
+            Event::Start { entry, load } => self.start(entry, load, ground),
+            Event::Stop => self.stop(),
+            Event::Restart => self.restart(ground),
+            Event::CopyIn { at, bytes } => self.copy_in(at, bytes, ground),
+        }
+    }
+
+    /// Its manager writes bytes into its private memory, from a logical address on.
+    fn copy_in(&mut self, at: u64, bytes: &[u8], ground: &mut Ground)
+        requires private { IsTrue (is_private_range self.old.desc.regions at (length bytes.now)) }
+        requires placed { ArePlaced ground.old self.old.desc.regions }
+        ensures inner { self.new ≡ record self.old {
+          inner = record self.old.inner { cores = map (with_copied (record { at = at; size = length bytes.now } ∷ [])) self.old.inner.cores };
+        } }
+        ensures memory { ground.new ≡ put self.old.desc.regions ground.old at bytes.now }
+        ensures sound { IsSound self.old.desc }
+    {
+        self.copier.write(ground, at, bytes);
+        copied_at(&mut self.cores, at, bytes.len() as u64);
+    }
+
     /// Does what the step is for its core.
+    #[tactic(auto, unfolding(crate::specs::Asking::asks))]
     fn step_core<P: Ports>(&mut self, core: usize, ground: &mut Ground, ports: &mut P) -> Acts
         requires core { core < length self.old.inner.cores }
         requires placed { ArePlaced ground.old self.old.desc.regions }
         requires kinds { P.kinds ports.old ≡ kinds_of self.old.desc.ports }
-        ensures stepped { IsCoreStepped (extents_of self.old.desc.regions)
+        requires told { AreTold (P.told ports.old) self.old.desc ground.old }
+        ensures stepped { let asked = asks self.old.desc (machine_of self.old (P.seen ports.old) ground.old) core in
+            IsCoreStepped (extents_of self.old.desc.regions) (pieces_of self.old.desc.regions ground.new (P.last ports.new))
             (spec.core_step (shape_of self.old.desc) (core_at self.old.inner.cores core) self.old.inner.interrupts (P.seen ports.old)
-            (own_of (extents_of self.old.desc.regions) ground.old))
+            (own_of (extents_of self.old.desc.regions) ground.old) (P.feed ports.old ground.old asked.handle asked.ranges))
             (core_at self.new.inner.cores core) self.new.inner.interrupts ground.new result.act result.shared.items }
         ensures rest { self.new ≡ record self.old {
           inner = record self.old.inner {
@@ -237,18 +290,12 @@ impl Partition {
             interrupts = self.new.inner.interrupts;
           };
         } }
-        ensures kept { KeepsUnbuilt result.act self.old self.new }
-        ensures memory { KeepsUnbuilt result.act ground.old ground.new }
-        ensures others { KeepsForeign (extents_of self.old.desc.regions) ground.old ground.new }
+        ensures others { KeepsOthers (P.told ports.old) self.old.desc.regions (P.last ports.new) result.act ground.old ground.new }
         ensures sizes { SameSizes ground.old ground.new }
-        ensures bytes { HasBytes result.act }
-        ensures entry { HasEntry result.act }
-        ensures handle { HasHandle (kinds_of self.old.desc.ports) result.act }
-        ensures seen { P.seen ports.new ≡ called (act_of result.act) (P.seen ports.old) }
-        ensures same { P.kinds ports.new ≡ P.kinds ports.old }
-        ensures did { Did P.sends P.takes result.act ports.old ports.new }
+        ensures lent { IsLent P.kinds P.seen P.sends P.takes P.copies P.told P.last (next_copy self.old.desc (machine_of self.old (P.seen ports.old) ground.old) core)
+            ground.old result.act ports.old ports.new }
     {
-        self.cores[core].step(&self.desc, &mut self.vpic, ground, ports)
+        self.cores[core].step(&self.desc, &mut self.copier, &mut self.vpic, ground, ports)
     }
 
     /// Counts the step, and stops or restarts where it says so.
@@ -256,25 +303,16 @@ impl Partition {
         requires running { self.old.inner.state ≡ State.Running }
         requires few { self.old.inner.steps < most_steps }
         requires placed { ArePlaced ground.old self.old.desc.regions }
-        ensures inner { self.new ≡ record self.old { inner = inner_after self.old.desc (act_of act.now) self.old.inner } }
+        ensures inner { self.new ≡ record self.old { inner = inner_after self.old.desc (act_of [] act.now) self.old.inner } }
         ensures cores { length self.new.inner.cores ≡ length self.old.inner.cores }
-        ensures memory { Reloads (restarts (act_of act.now)) self.old.desc ground.old ground.new }
+        ensures memory { Reloads (restarts (act_of [] act.now)) self.old.desc ground.old ground.new }
     {
+        self.steps += 1;
         match act {
-            Act::NotBuilt => {}
-            Act::Faulted => {
-                self.state = State::Faulted;
-                self.steps += 1;
-            }
-            Act::SelfStop => {
-                self.state = State::Stopped;
-                self.steps += 1;
-            }
-            Act::SelfRestart => {
-                self.steps += 1;
-                self.restart(ground);
-            }
-            _ => self.steps += 1,
+            Act::Faulted => self.state = State::Faulted,
+            Act::SelfStop => self.state = State::Stopped,
+            Act::SelfRestart => self.restart(ground),
+            _ => {}
         }
     }
 
@@ -322,6 +360,30 @@ fn written_all(cores: &mut Vec<Cpu>, regions: &[Region], stored: &[Wrote])
     for core in 0..cores.len() {
         cores[core].written(regions, stored);
     }
+}
+
+/// Each core, where a copy by these entries wrote into the partition's memory.
+#[tactic(auto, using(crate::proofs::Written::one_more, crate::proofs::Written::all_kept))]
+fn copied_all(cores: &mut Vec<Cpu>, entries: &[SgEntry])
+    ensures { cores.new.items ≡ map (with_copied (targets_of entries.now)) cores.old.items }
+{
+    for core in 0..cores.len() {
+        cores[core].copied(entries);
+    }
+}
+
+/// Each core, where so many bytes were written from a logical address on.
+fn copied_at(cores: &mut Vec<Cpu>, at: u64, size: u64)
+    ensures { cores.new.items ≡ map (with_copied (record { at = at; size = size } ∷ [])) cores.old.items }
+{
+    copied_all(
+        cores,
+        &[SgEntry {
+            source: 0,
+            target: at,
+            size,
+        }],
+    );
 }
 
 /// The place of a number in a list.

@@ -14,7 +14,7 @@ overflow_cast-tree_at c = let start = (starts c.self.inside.desc c.self.invarian
 pub reboot_all-requires-clause-few : goal.reboot_all-requires-clause-few
 reboot_all-requires-clause-few c =
     let few = few_cores c.self.inside.desc c.self.invariant.0 in
-    let count = c.self.invariant.1 in
+    let count = c.self.invariant.2 in
     omega (arith, few, count)
 
 pub invariant_of-self : goal.invariant_of-self
@@ -23,7 +23,8 @@ invariant_of-self c =
     let count : length c.reboot_all.new.cores.items ≡ length cores =
     ap (λ (all : List Cpu). length all) c.reboot_all.ensures ∙ length-map-range_with_len (λ (number : ℕ). booted c.args.entry c.self.inside.desc.tree_at number) 0 (length cores) in (
       c.self.invariant.0,
-      count ∙ c.self.invariant.1,
+      c.self.invariant.1,
+      count ∙ c.self.invariant.2,
       ap (λ (it : Controller). length it.sources) c.new-self-inside.ensures ∙ fresh_sources c.interrupt_count.result ∙ c.interrupt_count.ensures.count,
     )
 

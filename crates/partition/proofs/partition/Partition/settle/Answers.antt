@@ -6,4 +6,4 @@ use Rattle.partition.proofs.partition.Partition.settle.Goals as goal
 pub returns-in-SelfRestart-clause-inner : goal.returns-in-SelfRestart-clause-inner
 returns-in-SelfRestart-clause-inner c =
     restarted_part c.args.self.now _ c.restart.new.self c.args.ground.now c.restart.new.ground c.args.act.now c.in-SelfRestart.is
-    (ap (λ (p : Part). record p { inner = record p.inner { steps = p.inner.steps + 1 } }) c.self-in-SelfRestart.view_is) c.restart.ensures.restarted c.restart.ensures.desc
+    (ap (λ (p : Part). record p { inner = record p.inner { steps = p.inner.steps + 1 } }) c.self.view_is) c.restart.ensures.restarted c.restart.ensures.desc

@@ -1,24 +1,22 @@
-use Rattle.std.proofs.Common.{◌≡◌, false, length, length-set, ap, sym, subst, ◌∙◌}
+use Rattle.std.proofs.Common.{◌≡◌, [], length, length-set, ap, sym, subst, ◌∙◌}
 use Rattle.machine_desc.specs.declared.desc.Desc.{Desc}
-use Rattle.fresh_load.specs.Placed.{ArePlaced, extents_of, is_private_extent}
+use Rattle.fresh_load.specs.Placed.{ArePlaced}
 use Rattle.fresh_load.proofs.Places.{all_still_placed}
-use Rattle.ground.specs.Own.{own_of}
-use Rattle.partition.specs.Machine.{shape_of, core_at}
-use Rattle.partition.specs.Lending.{Part}
-use Rattle.partition.proofs.Anew.{foreign_private}
-use Rattle.partition.proofs.Steps.{machine_stepped}
-use Rattle.partition.proofs.Calls.{told_unbuilt}
+use Rattle.partition.specs.Machine.{core_at}
+use Rattle.partition.specs.Act.{act_of}
+use Rattle.partition.specs.Lending.{Part, Reloads, pieces_of, restarts}
+use Rattle.partition.proofs.Steps.{machine_stepped, stepped_alike, others_kept}
 use Rattle.partition.proofs.partition.Partition.step.Goals as goal
 
 pub returns-clause-stepped : goal.returns-clause-stepped
-returns-clause-stepped g c feed =
-    machine_stepped c.args.self.now c.step_core-acts.new.self c.settle.new.self c.args.core (g.P.Ports.seen c.args.ports.now) (g.P.Ports.seen c.step_core-acts.new.ports) c.args.ground.now c.step_core-acts.new.ground
-    c.settle.new.ground c.step_core-acts.result.act c.step_core-acts.result.shared.items feed c.step_core-acts.ensures.stepped c.step_core-acts.ensures.rest c.step_core-acts.ensures.seen c.settle.ensures.inner c.settle.ensures.memory
-
-pub returns-clause-unbuilt : goal.returns-clause-unbuilt
-returns-clause-unbuilt g c =
+returns-clause-stepped g c =
     let old : Part = c.args.self.now in
-    told_unbuilt (shape_of old.desc) (core_at old.inner.cores c.args.core) old.inner.interrupts (g.P.Ports.seen c.args.ports.now) (own_of (extents_of old.desc.regions) c.args.ground.now) c.step_core-acts.result.act c.step_core-acts.ensures.stepped.act
+    let last = g.P.Ports.last c.step_core-acts.new.ports in
+    let desc : c.step_core-acts.new.self.desc ≡ old.desc = ap (λ (p : Part). p.desc) c.step_core-acts.ensures.rest in
+    stepped_alike old.desc _ _ _ c.step_core-acts.new.ground c.settle.new.ground last c.step_core-acts.result.act c.step_core-acts.result.shared.items
+    c.settle.ensures.memory.kept
+    (machine_stepped old c.step_core-acts.new.self c.settle.new.self c.args.core (g.P.Ports.seen c.args.ports.now) (g.P.Ports.seen c.step_core-acts.new.ports) c.args.ground.now c.step_core-acts.new.ground
+    c.settle.new.ground _ (pieces_of old.desc.regions c.step_core-acts.new.ground last) c.step_core-acts.result.act c.step_core-acts.result.shared.items c.step_core-acts.ensures.stepped c.step_core-acts.ensures.rest c.step_core-acts.ensures.lent.seen c.settle.ensures.inner c.settle.ensures.memory)
 
 pub returns-clause-placed : goal.returns-clause-placed
 returns-clause-placed g c =
@@ -38,8 +36,8 @@ returns-clause-cores g c =
     ∙ (ap (λ (p : Part). length p.inner.cores) c.step_core-acts.ensures.rest ∙ length-set c.args.self.now.inner.cores c.args.core (core_at c.step_core-acts.new.self.inner.cores c.args.core))
 
 pub returns-clause-others : goal.returns-clause-others
-returns-clause-others g c extent foreign =
+returns-clause-others g c =
     let old : Part = c.args.self.now in
     let desc : c.step_core-acts.new.self.desc ≡ old.desc = ap (λ (p : Part). p.desc) c.step_core-acts.ensures.rest in
-    c.settle.ensures.memory.others extent (subst (λ (d : Desc). is_private_extent d.regions extent ≡ false) (sym desc) (foreign_private old.desc.regions extent foreign))
-    ∙ c.step_core-acts.ensures.others extent foreign
+    others_kept (g.P.Ports.told c.args.ports.now) old.desc (g.P.Ports.last c.step_core-acts.new.ports) c.step_core-acts.result.act c.args.ground.now c.step_core-acts.new.ground c.settle.new.ground
+    c.step_core-acts.ensures.others (subst (λ (d : Desc). Reloads (restarts (act_of [] c.step_core-acts.result.act)) d c.step_core-acts.new.ground c.settle.new.ground) desc c.settle.ensures.memory)
