@@ -11,7 +11,7 @@ use machine_desc::State;
 /// A run of the built-in machine: the words of its image, and its turns.
 pub type Course = (&'static [u32], &'static [Turn]);
 
-static COURSES: [Course; 27] = [
+static COURSES: [Course; 25] = [
     // runs that send
     (&HELLO, &[Quiet(5), Sends(b"Hi"), Quiet(1), See(Steps(7))]),
     (&HELLO, &[See(Steps(0))]),
@@ -242,53 +242,13 @@ static COURSES: [Course; 27] = [
             ])),
         ],
     ),
-    // what isn't built leaves the machine
-    // the copying of memory
+    // a copy, where there is no managed partition
     (
         &[0x3D60_0002, 0x616B_0008, 0x4400_0022],
         &[
-            Quiet(2),
-            NotBuilt,
-            See(Clocks(2, 0, false)),
-            NotBuilt,
-            See(Clocks(2, 0, false)),
-        ],
-    ),
-    // li r3,1; mtdec r3; and the call, at whose step the decrementer would expire
-    (
-        &[
-            0x3D60_0002,
-            0x616B_0008,
-            0x3860_0001,
-            0x7C76_03A6,
-            0x4400_0022,
-        ],
-        &[
-            Quiet(4),
-            NotBuilt,
-            See(Clocks(4, 1, false)),
-            NotBuilt,
-            See(Clocks(4, 1, false)),
-        ],
-    ),
-    // DIE, li r3,3; mtdec r3; wait; and the call, at the step that would wake the core
-    (
-        &[
-            0x3D60_0002,
-            0x616B_0008,
-            0x3C80_0400,
-            0x7C94_53A6,
-            0x3860_0003,
-            0x7C76_03A6,
-            0x7C00_007C,
-            0x4400_0022,
-        ],
-        &[
-            Quiet(8),
-            NotBuilt,
-            See(Clocks(8, 1, true)),
-            NotBuilt,
-            See(Clocks(8, 1, true)),
+            Quiet(3),
+            See(Clocks(3, 0, false)),
+            See(Registers(&[(3, 8)])),
         ],
     ),
 ];

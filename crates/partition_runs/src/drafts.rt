@@ -8,7 +8,7 @@ ghost use Rattle.partition.specs.Loading as spec;
 
 use core_step::Wrote;
 use guest_regs::Regs;
-use machine_desc::{Act, Desc, Piece, Port, Region, State, sound};
+use machine_desc::{Act, Desc, Piece, Port, Region, Span, State, sound};
 use outside::{Bytes, Listed, NoMemory};
 use partition::{Acts, Kind, LoneMachine, kind_at};
 use std::alloc::Global;
@@ -36,6 +36,8 @@ pub struct Draft<'a> {
     pub entry: u32,
     pub held: bool,
     pub managed: Option<bool>,
+    pub private: &'a [(u64, u64)],
+    pub feed: &'a [u8],
 }
 
 /// A region in short: its logical address, its size in bytes, its extent, and whether it is private.
@@ -51,6 +53,8 @@ pub fn built_in(image: &[u32]) -> Draft<'_> {
         entry: 0,
         held: false,
         managed: None,
+        private: &[],
+        feed: &[],
     }
 }
 
@@ -96,17 +100,26 @@ fn regions_of(alloc: Global, places: &[Place]) -> Result<Listed<Region>, NoMemor
     Ok(regions)
 }
 
+/// Ranges of logical addresses, each by its first address and its size.
+fn spans_of(alloc: Global, ranges: &[(u64, u64)]) -> Result<Listed<Span>, NoMemory> {
+    let mut spans = Listed::new(alloc);
+    for &(at, size) in ranges {
+        spans.push(Span { at, size })?;
+    }
+    Ok(spans)
+}
+
 /// Its ports.
-fn ports_of(alloc: Global, managed: Option<bool>) -> Result<Listed<Port>, NoMemory> {
+fn ports_of(alloc: Global, draft: &Draft) -> Result<Listed<Port>, NoMemory> {
     let mut ports = Listed::new(alloc);
     ports.push(Port::Channel { rx: 0, tx: 1 })?;
     ports.push(Port::Send)?;
     ports.push(Port::Receive { irq: 2 })?;
-    if let Some(held) = managed {
+    if let Some(held) = draft.managed {
         ports.push(Port::Manage {
             part: 1,
             held,
-            private: Listed::new(alloc),
+            private: spans_of(alloc, draft.private)?,
         })?;
     }
     Ok(ports)
@@ -120,7 +133,7 @@ fn desc_of(alloc: Global, draft: &Draft) -> Result<Desc, NoMemory> {
         name: Bytes::of(alloc, b"guest")?,
         regions: regions_of(alloc, draft.regions)?,
         cores: Listed::from_vec(Vec::from_slice(alloc, &[0])?),
-        ports: ports_of(alloc, draft.managed)?,
+        ports: ports_of(alloc, draft)?,
         tree_at: draft.tree_at,
         tree_size: 0,
         entry: draft.entry,
@@ -176,8 +189,9 @@ pub fn machine_of(alloc: Global, draft: &Draft) -> Result<LoneMachine, Fail> {
     if !can_be_made(&desc, draft.sizes) {
         return Err("the machine can be made".into());
     }
+    let feed = Bytes::of(alloc, draft.feed)?;
     Ok(
-        LoneMachine::new(alloc, desc, draft.sizes)
+        LoneMachine::new(alloc, desc, draft.sizes, feed)
             .ok()
             .ok_or("there is memory")?,
     )

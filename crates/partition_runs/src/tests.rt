@@ -1,5 +1,6 @@
 //! The tests.
 
+use crate::copies::{copies, copying};
 use crate::courses::{courses, layouts, starts};
 use crate::drafts::{Draft, built_in, manager};
 use crate::guests::guests;
@@ -7,6 +8,7 @@ use crate::images::HELLO;
 use crate::managers::managers;
 use crate::turns::{first_wrong_call, first_wrong_turn, image_of};
 use machine_desc::Port;
+use outside::Bytes;
 use partition::{MemPorts, Ports};
 use std::test::*;
 
@@ -73,8 +75,21 @@ fn managers_go_as_they_were_worked_out(rt: HostRuntime) -> Result<(), Fail> {
 }
 
 #[test]
+fn copies_go_as_they_were_worked_out(rt: HostRuntime) -> Result<(), Fail> {
+    for (place, run) in copies().iter().enumerate() {
+        let wrong = copying(rt.alloc(), run)?;
+        assert_eq!(rt; wrong, None, "{}", place);
+    }
+    Ok(())
+}
+
+#[test]
 fn ports_in_memory_keep_what_waits(rt: HostRuntime) -> Result<(), Fail> {
-    let mut ports = MemPorts::new(rt.alloc(), &[Port::Channel { rx: 0, tx: 1 }])?;
+    let mut ports = MemPorts::new(
+        rt.alloc(),
+        &[Port::Channel { rx: 0, tx: 1 }],
+        Bytes::of(rt.alloc(), &[])?,
+    )?;
     ports.give(1, b"abc");
     let mut first = [0; 2];
     ports.receive(1, &mut first);

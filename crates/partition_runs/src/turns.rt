@@ -29,8 +29,14 @@ pub enum Turn {
     Commands(u32, [u32; 4], u32, Command),
     /// A step that does this to a partition.
     Does(Command),
-    /// A step that isn't built.
-    NotBuilt,
+    /// A copy by r3 to r7, what r3 holds behind it, and what it does, in 13 steps.
+    Copy([u32; 5], u32, Option<Command>),
+    /// The word at this address is this one, in 3 steps.
+    Holds(u32, u32),
+    /// Reserves this address, in 3 steps.
+    Reserve(u32),
+    /// Stores there if the reservation holds, behind which the condition register is this, in 2 steps.
+    Conclude(u32),
     /// A step that ends the machine.
     Faults,
     /// The doorbell of handle 3 rings.
@@ -58,6 +64,9 @@ pub enum Command {
     Start(u32, u32, bool),
     Stop(u32),
     Restart(u32),
+    /// By its handle and how many bytes there are.
+    CopyTo(u32, u32),
+    CopyFrom(u32, u32),
     SelfStop,
     SelfRestart,
 }
@@ -90,6 +99,9 @@ pub enum Seen {
 /// The token of a doorbell send.
 const DOORBELL_SEND: u32 = 0x1_000E;
 
+/// The token of a copy.
+const COPY: u32 = 0x2_0008;
+
 /// How many instructions a call takes.
 const CALL_LEN: u64 = 11;
 
@@ -110,7 +122,44 @@ fn call_words(token: u32, args: [u32; 4]) -> [u32; 11] {
     ]
 }
 
-/// The image of a guest that makes these calls.
+/// Puts a number into r9.
+fn address_words(number: u32) -> [u32; 2] {
+    [
+        0x3D20_0000 | number >> 16, // lis r9
+        0x6129_0000 | number & 0xFFFF, // ori r9,r9
+    ]
+}
+
+/// The instructions of a copy: r7 first, and then a call.
+fn put_copy(image: &mut Vec<u32>, args: [u32; 5]) -> Result<(), AllocError> {
+    let [source, target, low, high, count] = args;
+    image.push(0x3CE0_0000 | count >> 16)?; // lis r7
+    image.push(0x60E7_0000 | count & 0xFFFF)?; // ori r7,r7
+    image.extend_from_slice(&call_words(COPY, [source, target, low, high]))
+}
+
+/// The instructions of what a guest does by itself, if any.
+fn put_deed(image: &mut Vec<u32>, turn: Turn) -> Result<(), AllocError> {
+    match turn {
+        Turn::Copy(args, _, _) => put_copy(image, args)?,
+        Turn::Holds(at, _) => {
+            image.extend_from_slice(&address_words(at))?;
+            image.push(0x8149_0000)?; // lwz r10,0(r9)
+        }
+        Turn::Reserve(at) => {
+            image.extend_from_slice(&address_words(at))?;
+            image.push(0x7D40_4828)?; // lwarx r10,0,r9
+        }
+        Turn::Conclude(_) => {
+            image.push(0x7D40_492D)?; // stwcx. r10,0,r9
+            image.push(0x7D40_0026)?; // mfcr r10
+        }
+        _ => {}
+    }
+    Ok(())
+}
+
+/// The image of a guest that does this.
 pub fn image_of(alloc: Global, turns: &[Turn]) -> Result<Vec<u32>, AllocError> {
     let mut image = Vec::new(alloc);
     for turn in turns {
@@ -121,7 +170,7 @@ pub fn image_of(alloc: Global, turns: &[Turn]) -> Result<Vec<u32>, AllocError> {
             Turn::Send(handle, _, _) => {
                 image.extend_from_slice(&call_words(DOORBELL_SEND, [handle, 0, 0, 0]))?;
             }
-            _ => {}
+            _ => put_deed(&mut image, *turn)?,
         }
     }
     Ok(image)
@@ -206,6 +255,8 @@ fn command_of(act: &Act) -> Option<Command> {
         Act::Start { h, entry, load } => Some(Command::Start(*h, *entry, *load)),
         Act::Stop { h } => Some(Command::Stop(*h)),
         Act::Restart { h } => Some(Command::Restart(*h)),
+        Act::CopyTo { h, total } => Some(Command::CopyTo(*h, *total)),
+        Act::CopyFrom { h, total } => Some(Command::CopyFrom(*h, *total)),
         Act::SelfStop => Some(Command::SelfStop),
         Act::SelfRestart => Some(Command::SelfRestart),
         _ => None,
@@ -229,6 +280,25 @@ fn commands(
     let done = does(machine, command)?;
     let regs = registers_of(machine)?;
     Ok(done && regs.gpr(3) == left)
+}
+
+/// Whether a copy does this, and leaves this in r3.
+fn copies(
+    alloc: Global,
+    machine: &mut LoneMachine,
+    left: u32,
+    command: Option<Command>,
+) -> Result<bool, Fail> {
+    quiet_steps(alloc, machine, CALL_LEN + 1)?;
+    let acts = step(machine, 0)?;
+    let regs = registers_of(machine)?;
+    Ok(command_of(&acts.act) == command && regs.gpr(3) == left)
+}
+
+/// Whether r10 is this behind so many quiet steps.
+fn brings(alloc: Global, machine: &mut LoneMachine, steps: u64, word: u32) -> Result<bool, Fail> {
+    quiet_steps(alloc, machine, steps)?;
+    Ok(registers_of(machine)?.gpr(10) == word)
 }
 
 /// What a general register of a manager begins with.
@@ -318,7 +388,10 @@ fn goes_right(alloc: Global, machine: &mut LoneMachine, turn: Turn) -> Result<bo
         Turn::Send(_, status, rings) => answers(alloc, machine, status, &[], rings),
         Turn::Commands(_, _, left, command) => commands(alloc, machine, left, command),
         Turn::Does(command) => does(machine, command),
-        Turn::NotBuilt => Ok(matches!(step(machine, 0)?.act, Act::NotBuilt)),
+        Turn::Copy(_, left, command) => copies(alloc, machine, left, command),
+        Turn::Holds(_, word) => brings(alloc, machine, 3, word),
+        Turn::Conclude(condition) => brings(alloc, machine, 2, condition),
+        Turn::Reserve(_) => shares(alloc, machine, 3, &[]),
         Turn::Faults => Ok(matches!(step(machine, 0)?.act, Act::Faulted)),
         Turn::See(seen) => shows(machine, seen),
         _ => Ok(comes(machine, turn)),
