@@ -6,3 +6,4 @@ pub mod Reading
 pub mod Names
 pub mod Printed
 pub mod SmallRun
+pub mod ActLines

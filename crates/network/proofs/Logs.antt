@@ -1,12 +1,12 @@
 -- A run's machines and lines are those of its log, and each partition's are those of its own changes.
-use Rattle.std.proofs.Common.{◌≡◌, ◌≢◌, ℕ, ◌<◌, ◌==◌, Bool, true, false, subst, List, [], ◌∷◌, ◌++◌, length, Option, None, Some, refl, sym, ap, ◌∙◌, append_assoc, length-set}
+use Rattle.std.proofs.Common.{◌≡◌, ◌≢◌, ℕ, ◌<◌, ◌==◌, Bool, true, false, subst, List, [], ◌∷◌, ◌++◌, length, refl, sym, ap, ◌∙◌, append_assoc, length-set}
 use Rattle.std.proofs.lemmas.List.{get_or-set_same, get_or-set_other}
 use Rattle.std.proofs.lemmas.Bool.{eqb-true, eqb-false, eq-eqb}
 use Rattle.machine_desc.specs.declared.desc.Desc.{Desc}
 use Rattle.partition.specs.Machine.{Machine, fresh}
 use Rattle.network.specs.Network.{Network, no_desc, desc_at}
 use Rattle.network.specs.Change.{Change, Moves, Shared, Traced, changed, traced, after_changes}
-use Rattle.network.specs.World.{World, Entry, entry_for, machine_at, after_entry, after_log, changes_of, Line, line_of, trace_in, Passage, passed, then_unless, and_then}
+use Rattle.network.specs.World.{World, Entry, entry_for, machine_at, after_entry, after_log, changes_of, Line, line_of, trace_in, Passage, passed, and_then}
 
 -- ---- what a log tells
 
@@ -47,19 +47,14 @@ lines_both network (entry ∷ a) b machines =
 pub logged_passed : (network : Network) (world : World) → IsLogged network world (passed world)
 logged_passed network world = record { machines = refl; lines = refl }
 
-logged_unless : (network : Network) (world : World) (first : Passage) (rest : World → Passage) → IsLogged network world first → IsLogged network first.after (rest first.after)
-    → (unbuilt : Option ℕ) → IsLogged network world (then_unless unbuilt first rest)
-logged_unless network world first rest g h (Some step) = g
-logged_unless network world first rest g h None = record {
+pub logged_then : (network : Network) (world : World) (first : Passage) (rest : World → Passage) → IsLogged network world first → IsLogged network first.after (rest first.after)
+    → IsLogged network world (and_then first rest)
+logged_then network world first rest g h = record {
   machines = h.machines ∙ (ap (after_log network (rest first.after).log) g.machines ∙ sym (after_both network first.log (rest first.after).log world.machines));
   lines = ap (λ (l : List Line). first.lines ++ l) (h.lines ∙ ap (lines_by network (rest first.after).log) g.machines)
       ∙ (ap (λ (l : List Line). l ++ lines_by network (rest first.after).log (after_log network first.log world.machines)) g.lines
       ∙ sym (lines_both network first.log (rest first.after).log world.machines));
 }
-
-pub logged_then : (network : Network) (world : World) (first : Passage) (rest : World → Passage) → IsLogged network world first → IsLogged network first.after (rest first.after)
-    → IsLogged network world (and_then first rest)
-logged_then network world first rest g h = logged_unless network world first rest g h first.unbuilt
 
 -- ---- one partition
 

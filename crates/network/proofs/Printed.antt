@@ -10,13 +10,14 @@ use Rattle.machine_desc.specs.declared.act.State.{State}
 use Rattle.machine_desc.specs.declared.act.State.TheVariants as state
 use Rattle.trace_text.specs.Acts.{load_digit}
 use Rattle.trace_text.specs.Ends.{state_word}
-use Rattle.partition.specs.Act.{Act, Nothing, Sent, Took, Rang, Start, Stop, Restart, CopyTo, CopyFrom, SelfStop, SelfRestart, Faulted, NotBuilt}
+use Rattle.copy_lists.specs.Pieces.{size_of}
+use Rattle.partition.specs.Act.{Act, Nothing, Sent, Took, Rang, Start, Stop, Restart, CopyTo, CopyFrom, SelfStop, SelfRestart, Faulted}
 use Rattle.partition.specs.Machine.{Machine, fresh}
 use Rattle.network.specs.Network.{Network, no_desc, desc_at}
 use Rattle.network.specs.Change.{Traced, trace_of}
 use Rattle.network.specs.World.{World, Counts, Line, Passage, machine_at, counts_at, trace_in, moves_of}
 use Rattle.network.specs.Entering.{waiting}
-use Rattle.network.specs.Report.{act_line, traced_line, act_lines, machine_line, machine_lines, counts_lines, end_lines, last_lines, text_of, trace_lines, unless_unbuilt, own_text}
+use Rattle.network.specs.Report.{act_line, traced_line, act_lines, machine_line, machine_lines, counts_lines, end_lines, text_of, trace_lines, own_text}
 use Rattle.network.specs.Lines.{begins_with, ends_with, lines_of}
 use Rattle.network.specs.Laws.{FollowsMoves, IsNamed, is_word}
 use Rattle.network.proofs.Reading.{spelled, text, are_plain, all_plain, is_line, are_lines, picked, read_back, decimal_plain, hex_plain}
@@ -33,12 +34,11 @@ act_words (Rang handle) = Some (codes "ring" ∷ (decimal handle ∷ []))
 act_words (Start handle entry load) = Some (codes "start" ∷ (decimal handle ∷ (encode_lower (to_be_bytes w32 entry) ∷ (load_digit load ∷ []))))
 act_words (Stop handle) = Some (codes "stop" ∷ (decimal handle ∷ []))
 act_words (Restart handle) = Some (codes "restart" ∷ (decimal handle ∷ []))
-act_words (CopyTo handle count) = Some (codes "copy" ∷ (codes "to" ∷ (decimal handle ∷ (decimal count ∷ []))))
+act_words (CopyTo handle pieces) = Some (codes "copy" ∷ (codes "to" ∷ (decimal handle ∷ (decimal (size_of pieces) ∷ []))))
 act_words (CopyFrom handle count) = Some (codes "copy" ∷ (codes "from" ∷ (decimal handle ∷ (decimal count ∷ []))))
 act_words SelfStop = Some (codes "stop" ∷ (codes "self" ∷ []))
 act_words SelfRestart = Some (codes "restart" ∷ (codes "self" ∷ []))
 act_words Faulted = Some (codes "faulted" ∷ [])
-act_words NotBuilt = None
 
 abbrev line_words : List ℕ → ℕ → Option (List (List ℕ)) → List (List (List ℕ))
 line_words name step None = []
@@ -65,13 +65,6 @@ consoles_words console [] given consoles = []
 consoles_words console (name ∷ names) given consoles =
     console_words name (counts_at consoles console) (length (waiting (given console) consoles console)) ∷ consoles_words (console + 1) names given consoles
 
-abbrev refused_words : ℕ → List (List ℕ)
-refused_words step = codes "refused" ∷ (codes "N1" ∷ (codes "at" ∷ (codes "step" ∷ (decimal step ∷ []))))
-
-abbrev last_words : Option ℕ → List (List (List ℕ)) → List (List (List ℕ))
-last_words None words = words
-last_words (Some step) words = refused_words step ∷ []
-
 abbrev behind_words : Network → (ℕ → List ℕ) → World → List (List (List ℕ))
 behind_words network given world = ends_words 0 network.descs world.machines ++ consoles_words 0 network.wiring.consoles given world.consoles
 
@@ -93,12 +86,11 @@ act_spelled name step (Rang handle) = refl
 act_spelled name step (Start handle entry load) = refl
 act_spelled name step (Stop handle) = refl
 act_spelled name step (Restart handle) = refl
-act_spelled name step (CopyTo handle count) = refl
+act_spelled name step (CopyTo handle pieces) = refl
 act_spelled name step (CopyFrom handle count) = refl
 act_spelled name step SelfStop = refl
 act_spelled name step SelfRestart = refl
 act_spelled name step Faulted = refl
-act_spelled name step NotBuilt = refl
 
 line_text : (name : List ℕ) (step : ℕ) (words : Option (List (List ℕ))) → spelled_by name step words ≡ text (line_words name step words)
 line_text name step None = refl
@@ -136,10 +128,6 @@ behind_text network given world =
     ap (λ (l : List ℕ). l ++ counts_lines 0 network.wiring.consoles given world.consoles) (ends_text 0 network.descs world.machines)
     ∙ (ap (λ (l : List ℕ). text (ends_words 0 network.descs world.machines) ++ l) (consoles_text 0 network.wiring.consoles given world.consoles)
     ∙ sym (text_both (ends_words 0 network.descs world.machines) (consoles_words 0 network.wiring.consoles given world.consoles)))
-
-last_text : (unbuilt : Option ℕ) (lines : List ℕ) (words : List (List (List ℕ))) → lines ≡ text words → last_lines unbuilt lines ≡ text (last_words unbuilt words)
-last_text None lines words h = h
-last_text (Some step) lines words h = sym (append-nil (spelled (refused_words step)))
 
 -- ---- every line is a line
 
@@ -182,12 +170,11 @@ act_plain (Rang handle) = word (codes "ring") refl (num handle nil)
 act_plain (Start handle entry load) = word (codes "start") refl (num handle (hexed (to_be_bytes w32 entry) (word (load_digit load) (load_plain load) nil)))
 act_plain (Stop handle) = word (codes "stop") refl (num handle nil)
 act_plain (Restart handle) = word (codes "restart") refl (num handle nil)
-act_plain (CopyTo handle count) = word (codes "copy") refl (word (codes "to") refl (num handle (num count nil)))
+act_plain (CopyTo handle pieces) = word (codes "copy") refl (word (codes "to") refl (num handle (num (size_of pieces) nil)))
 act_plain (CopyFrom handle count) = word (codes "copy") refl (word (codes "from") refl (num handle (num count nil)))
 act_plain SelfStop = word (codes "stop") refl (word (codes "self") refl nil)
 act_plain SelfRestart = word (codes "restart") refl (word (codes "self") refl nil)
 act_plain Faulted = word (codes "faulted") refl nil
-act_plain NotBuilt = tt
 
 line_is : (name : List ℕ) (step : ℕ) (words : Option (List (List ℕ))) → are_plain name ≡ true → ArePlain words → Lines (line_words name step words)
 line_is name step None h k = record { are = refl }
@@ -229,11 +216,6 @@ consoles_are console (name ∷ names) given consoles h =
     lines_both (console_words name counts waits ∷ []) (consoles_words (console + 1) names given consoles)
     (one_line (codes "console") (word (codes "console") refl (word name (word_plain name p.0) (num counts.printed (num counts.entered (num waits nil))))))
     (consoles_are (console + 1) names given consoles p.1)
-
-last_are : (unbuilt : Option ℕ) (words : List (List (List ℕ))) → Lines words → Lines (last_words unbuilt words)
-last_are None words h = h
-last_are (Some step) words h =
-    one_line (codes "refused") (word (codes "refused") refl (word (codes "N1") refl (word (codes "at") refl (word (codes "step") refl (num step nil)))))
 
 -- ---- which lines are of a name
 
@@ -354,15 +336,10 @@ no_consoles name console (other ∷ names) given consoles h =
     (picked_other name (codes "console") (other ∷ (decimal counts.printed ∷ (decimal counts.entered ∷ (decimal waits ∷ [])))) h refl)
     ∙ no_consoles name (console + 1) names given consoles h
 
--- the partition's end line, where no step ended the run
-picked_last : (network : Network) (given : ℕ → List ℕ) (part : ℕ) (world : World) → IsNamed network → part < length network.descs → (unbuilt : Option ℕ)
-    → flat_map (picked (desc_at network part).name) (last_words unbuilt (behind_words network given world))
-    ≡ unless_unbuilt unbuilt (machine_line (desc_at network part).name (machine_at world.machines part))
-picked_last network given part world named here (Some step) =
-    let is = name_at network.descs part named.names here in
-    ap (λ (l : List ℕ). l ++ [])
-    (picked_other (desc_at network part).name (codes "refused") (codes "N1" ∷ (codes "at" ∷ (codes "step" ∷ (decimal step ∷ [])))) (swapped (codes "refused") (desc_at network part).name ∙ is.not_refused) refl)
-picked_last network given part world named here None =
+-- the partition's end line
+picked_last : (network : Network) (given : ℕ → List ℕ) (part : ℕ) (world : World) → IsNamed network → part < length network.descs
+    → flat_map (picked (desc_at network part).name) (behind_words network given world) ≡ machine_line (desc_at network part).name (machine_at world.machines part)
+picked_last network given part world named here =
     let name : List ℕ = (desc_at network part).name in
     let is = name_at network.descs part named.names here in
     let stops : List (List (List ℕ)) = ends_words 0 network.descs world.machines in
@@ -387,41 +364,35 @@ plain_names network named part =
     )
     (cases_order part (length network.descs))
 
-text_is : (network : Network) (given : ℕ → List ℕ) (done : Passage)
-    → text_of network given done ≡ text (all_words network done.lines ++ last_words done.unbuilt (behind_words network given done.after))
+text_is : (network : Network) (given : ℕ → List ℕ) (done : Passage) → text_of network given done ≡ text (all_words network done.lines ++ behind_words network given done.after)
 unfolding text_of
 text_is network given done =
     let acts : List (List (List ℕ)) = all_words network done.lines in
-    let last : List (List (List ℕ)) = last_words done.unbuilt (behind_words network given done.after) in
-    ap (λ (l : List ℕ). l ++ last_lines done.unbuilt (end_lines network given done.after)) (acts_text network done.lines)
-    ∙ (ap (λ (l : List ℕ). text acts ++ l) (last_text done.unbuilt (end_lines network given done.after) (behind_words network given done.after) (behind_text network given done.after))
-    ∙ sym (text_both acts last))
+    let last : List (List (List ℕ)) = behind_words network given done.after in
+    ap (λ (l : List ℕ). l ++ end_lines network given done.after) (acts_text network done.lines)
+    ∙ (ap (λ (l : List ℕ). text acts ++ l) (behind_text network given done.after) ∙ sym (text_both acts last))
 
-all_are : (network : Network) (given : ℕ → List ℕ) (done : Passage) → IsNamed network
-    → Lines (all_words network done.lines ++ last_words done.unbuilt (behind_words network given done.after))
+all_are : (network : Network) (given : ℕ → List ℕ) (done : Passage) → IsNamed network → Lines (all_words network done.lines ++ behind_words network given done.after)
 all_are network given done named =
     let plain = plain_names network named in
-    lines_both (all_words network done.lines) (last_words done.unbuilt (behind_words network given done.after)) (acts_are network plain done.lines)
-    (
-    last_are done.unbuilt (behind_words network given done.after)
+    lines_both (all_words network done.lines) (behind_words network given done.after) (acts_are network plain done.lines)
     (
     lines_both (ends_words 0 network.descs done.after.machines) (consoles_words 0 network.wiring.consoles given done.after.consoles) (ends_are 0 network.descs done.after.machines plain)
     (consoles_are 0 network.wiring.consoles given done.after.consoles named.consoles)
     )
-    )
 
 pub lines_are_own : (network : Network) (given : ℕ → List ℕ) (part : ℕ) (done : Passage) → IsNamed network → part < length network.descs → FollowsMoves network part done
-    → lines_of (desc_at network part).name (text_of network given done) ≡ own_text (desc_at network part) done.unbuilt (moves_of part done.log)
+    → lines_of (desc_at network part).name (text_of network given done) ≡ own_text (desc_at network part) (moves_of part done.log)
 unfolding own_text
 lines_are_own network given part done named here follows =
     let d : Desc = desc_at network part in
     let name : List ℕ = d.name in
     let acts : List (List (List ℕ)) = all_words network done.lines in
-    let last : List (List (List ℕ)) = last_words done.unbuilt (behind_words network given done.after) in
+    let last : List (List (List ℕ)) = behind_words network given done.after in
     ap (lines_of name) (text_is network given done)
     ∙ (read_back name (acts ++ last) (all_are network given done named).are
     ∙ (picked_both name acts last
     ∙ (ap (λ (l : List ℕ). l ++ flat_map (picked name) last) (picked_acts network named part here done.lines ∙ sym (trace_text name (trace_in part done.lines)))
-    ∙ (ap (λ (l : List ℕ). trace_lines name (trace_in part done.lines) ++ l) (picked_last network given part done.after named here done.unbuilt)
-    ∙ (ap (λ (t : List Traced). trace_lines name t ++ unless_unbuilt done.unbuilt (machine_line name (machine_at done.after.machines part))) follows.trace
-    ∙ ap (λ (m : Machine). trace_lines name (trace_of d (moves_of part done.log) (fresh d)) ++ unless_unbuilt done.unbuilt (machine_line name m)) follows.machine)))))
+    ∙ (ap (λ (l : List ℕ). trace_lines name (trace_in part done.lines) ++ l) (picked_last network given part done.after named here)
+    ∙ (ap (λ (t : List Traced). trace_lines name t ++ machine_line name (machine_at done.after.machines part)) follows.trace
+    ∙ ap (λ (m : Machine). trace_lines name (trace_of d (moves_of part done.log) (fresh d)) ++ machine_line name m) follows.machine)))))

@@ -1,7 +1,6 @@
 -- Where no partition runs and nothing waits, turns pass.
-use Rattle.std.proofs.Common.{◌≡◌, ℕ, zero, suc, ◌+◌, ◌<◌, Bool, true, false, cond, ◌&&◌, not, List, [], ◌∷◌, ◌++◌, map, length, take, slice_set, Option, Some, None, refl, sym, ap, subst, ◌∙◌, arith}
+use Rattle.std.proofs.Common.{◌≡◌, ℕ, zero, suc, ◌+◌, ◌<◌, Bool, true, false, cond, not, List, [], ◌∷◌, map, length, take, slice_set, Option, Some, None, refl, ap, ◌∙◌, arith}
 use Rattle.std.specs.Prelude.{min}
-use Rattle.std.specs.List.{list_all}
 use Rattle.std.proofs.lemmas.Bool.{and_parts}
 use Rattle.std.proofs.lemmas.List.{set-get_or}
 use Rattle.machine_desc.specs.declared.wiring.PortRef.{PortRef}
@@ -52,7 +51,6 @@ nothing-entered network ref room console world =
       after = record { machines = after_log network (map delivered (come_to ref bytes)) world.machines; consoles = count_entered console (min room 0) world.consoles };
       log = map delivered (come_to ref bytes);
       lines = [];
-      unbuilt = None;
     }) (none-taken room)
     ∙ ap (λ (consoles : List Counts). passed (record { machines = world.machines; consoles = consoles })) (none-more world.consoles console room)
 

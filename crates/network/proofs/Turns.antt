@@ -6,7 +6,6 @@ use Rattle.machine_desc.specs.declared.desc.Region.{Region}
 use Rattle.machine_desc.specs.declared.wiring.PortRef.{PortRef}
 use Rattle.machine_desc.specs.declared.wiring.End.{End}
 use Rattle.machine_desc.specs.declared.wiring.End.TheVariants.{Part, Console}
-use Rattle.partition.specs.Act.{Act, NotBuilt}
 use Rattle.partition.specs.Machine.{Machine}
 use Rattle.partition.specs.Step.{Stepped}
 use Rattle.partition.specs.Reached.{Steps}
@@ -15,7 +14,7 @@ use Rattle.network.specs.Change.{Moves, Shared}
 use Rattle.network.specs.World.{World, Entry, Delivery, entry_for, delivered, machine_at, after_entry, after_log, line_of, Line, opening_world, passed}
 use Rattle.network.specs.Entering.{received_room, come_to, entered, entered_at, enter, enter_all, waiting}
 use Rattle.network.specs.Effects.{brought, shown_from, shown}
-use Rattle.network.specs.Turn.{feed_for, done_by, after_step, after_act, steps_in, is_running, seat_turn, core_turn, core_in, Script, given_at, turn, turns_from, run}
+use Rattle.network.specs.Turn.{feed_for, done_by, after_step, steps_in, is_running, seat_turn, core_turn, core_in, Script, given_at, turn, turns_from, run}
 use Rattle.network.proofs.Logs.{lines_by, lines_both, IsLogged, logged_passed, logged_then}
 
 -- ---- what has no line
@@ -82,13 +81,9 @@ logged_step network part core world =
       lines = sym (ap (λ (l : List Line). line_of part (record { step = done.after.inner.steps; act = done.act }) ∷ l) (no_lines_beside network part done (brought network world.machines part done.act) next));
     }
 
-logged_act : (network : Network) (part core : ℕ) (world : World) (act : Act) → IsLogged network world (after_act network part core world (done_by network world.machines part core) act)
-logged_act network part core world NotBuilt = record { machines = refl; lines = refl }
-logged_act network part core world _ = logged_step network part core world
-
 logged_steps : (network : Network) (part core : ℕ) (world : World) → IsLogged network world (steps_in network part core world)
 unfolding steps_in
-logged_steps network part core world = logged_act network part core world (done_by network world.machines part core).act
+logged_steps network part core world = logged_step network part core world
 
 logged_running : (network : Network) (seat : Seat) (world : World) (b : Bool) → IsLogged network world (if b then steps_in network seat.part seat.core world else passed world)
 logged_running network seat world true = logged_steps network seat.part seat.core world

@@ -8,8 +8,9 @@ use Rattle.machine_desc.specs.declared.wiring.PortRef.{PortRef}
 use Rattle.machine_desc.specs.declared.wiring.End.{End}
 use Rattle.machine_desc.specs.declared.wiring.End.TheVariants.{Part, Console}
 use Rattle.fresh_load.specs.Placed.{extents_of}
+use Rattle.copy_lists.specs.Pieces.{Piece}
 use Rattle.partition.specs.Port.{End as OwnEnd}
-use Rattle.partition.specs.Act.{Act, Nothing, Sent, Took, Rang, Start, Stop, Restart, CopyTo, CopyFrom, SelfStop, SelfRestart, Faulted, NotBuilt}
+use Rattle.partition.specs.Act.{Act, Nothing, Sent, Took, Rang, Start, Stop, Restart, CopyTo, CopyFrom, SelfStop, SelfRestart, Faulted}
 use Rattle.partition.specs.Event as event
 use Rattle.partition.specs.Machine.{Machine}
 use Rattle.partition.specs.Step.{Stepped}
@@ -56,6 +57,10 @@ abbrev pub at_managed : Option ℕ → (ℕ → List Delivery) → List Delivery
 at_managed None deliveries = []
 at_managed (Some part) deliveries = deliveries part
 
+-- bytes are written into its memory
+abbrev pub copied_into : ℕ → Piece → Delivery
+copied_into part piece = to_part part (event.CopyIn piece)
+
 -- the manager, if there is one, hears that the partition doesn't run
 abbrev pub tell_manager : Option PortRef → List Delivery
 tell_manager None = []
@@ -63,8 +68,7 @@ tell_manager (Some ref) = to_part ref.part (event.Tells ref.handle false) ∷ []
 
 -- ---- all acts
 
--- The events that an act brings, in their order, by the machines before its step. NOT BUILT YET: what is copied into a managed
--- partition is no event so far.
+-- The events that an act brings, in their order, by the machines before its step.
 unfoldable pub brought : Network → List Machine → ℕ → Act → List Delivery
 brought network machines part Nothing = []
 brought network machines part (Sent handle bytes) = sent_to (far_of network part handle) part handle bytes
@@ -75,12 +79,11 @@ brought network machines part (Start handle entry load) =
 brought network machines part (Stop handle) = at_managed (managed_by network part handle) (λ other. to_part other event.Stop ∷ [])
 brought network machines part (Restart handle) =
     at_managed (managed_by network part handle) (λ other. to_part other event.Restart ∷ returned_room network machines other)
-brought network machines part (CopyTo handle count) = []
+brought network machines part (CopyTo handle pieces) = at_managed (managed_by network part handle) (λ other. map (copied_into other) pieces)
 brought network machines part (CopyFrom handle count) = []
 brought network machines part SelfStop = tell_manager (manager_of network part)
 brought network machines part SelfRestart = returned_room network machines part
 brought network machines part Faulted = tell_manager (manager_of network part)
-brought network machines part NotBuilt = []
 
 -- ---- shared areas
 

@@ -1,5 +1,5 @@
 -- How bytes come into the network: a console's waiting bytes enter as far as there is room.
-use Rattle.std.specs.Prelude.{ℕ, zero, suc, ◌+◌, ◌-◌, min, List, [], ◌∷◌, length, map, take, drop, slice_set, Option, Some, None}
+use Rattle.std.specs.Prelude.{ℕ, zero, suc, ◌+◌, ◌-◌, min, List, [], ◌∷◌, length, map, take, drop, slice_set, Option, Some}
 use Rattle.machine_desc.specs.declared.wiring.PortRef.{PortRef}
 use Rattle.machine_desc.specs.declared.wiring.End.{End}
 use Rattle.machine_desc.specs.declared.wiring.End.TheVariants.{Part, Console}
@@ -32,7 +32,6 @@ entered network ref room console bytes world = record {
   };
   log = map delivered (come_to ref (take room bytes));
   lines = [];
-  unbuilt = None;
 }
 
 abbrev pub entered_at : Network → Option End → ℕ → List ℕ → World → Passage

@@ -7,7 +7,8 @@ use Rattle.machine_desc.specs.declared.desc.Desc.{Desc}
 use Rattle.machine_desc.specs.declared.desc.Region.{Region}
 use Rattle.machine_desc.specs.Ranges.{none_meets}
 use Rattle.trace_text.specs.Acts.{act_text}
-use Rattle.partition.specs.Act.{act_of}
+use Rattle.copy_lists.specs.Pieces.{Piece}
+use Rattle.partition.specs.Act.{HasTotal, act_of}
 use Rattle.partition.specs.Machine.{Machine, fresh}
 use Rattle.partition.specs.Reached.{after_moves}
 use Rattle.network.specs.Network.{Network, desc_at}
@@ -68,13 +69,14 @@ abbrev pub LinesAreOwn : Type 0
 LinesAreOwn =
     (network : Network) (script : Script) (turns part : ℕ) → IsNamed network → part < length network.descs → are_private (desc_at network part).regions ≡ true
     → lines_of (desc_at network part).name (report network script turns)
-    ≡ own_text (desc_at network part) (run network script turns).unbuilt (moves_of part (run network script turns).log)
+    ≡ own_text (desc_at network part) (moves_of part (run network script turns).log)
 
 -- ---- lines of the program
 
--- They are those that are defined here.
+-- They are those that are defined here, where the program's act tells how many bytes these pieces have.
 abbrev pub ActLinesAgree : Type 0
-ActLinesAgree = (name : List ℕ) (step : ℕ) (act : Told) → act_text name step act ≡ act_line name step (act_of act)
+ActLinesAgree =
+    (name : List ℕ) (step : ℕ) (pieces : List Piece) (act : Told) → HasTotal pieces act → act_text name step act ≡ act_line name step (act_of pieces act)
 
 -- ---- rest
 

@@ -1,10 +1,10 @@
 -- What is written of a run.
-use Rattle.std.specs.Prelude.{ℕ, ◌+◌, List, [], ◌∷◌, ◌++◌, length, codes, decimal, flat_map, Option, Some, None}
+use Rattle.std.specs.Prelude.{ℕ, ◌+◌, List, [], ◌∷◌, ◌++◌, length, flat_map}
 use Rattle.machine_desc.specs.declared.desc.Desc.{Desc}
 use Rattle.trace_text.specs.Acts.{sent_line, ring_line, start_line, stop_line, restart_line, copy_to_line, copy_from_line, self_stop_line, self_restart_line, faulted_line}
 use Rattle.trace_text.specs.Ends.{state_word, end_line, console_line}
-use Rattle.trace_text.specs.Refusals.{refused_line}
-use Rattle.partition.specs.Act.{Act, Nothing, Sent, Took, Rang, Start, Stop, Restart, CopyTo, CopyFrom, SelfStop, SelfRestart, Faulted, NotBuilt}
+use Rattle.copy_lists.specs.Pieces.{size_of}
+use Rattle.partition.specs.Act.{Act, Nothing, Sent, Took, Rang, Start, Stop, Restart, CopyTo, CopyFrom, SelfStop, SelfRestart, Faulted}
 use Rattle.partition.specs.Machine.{Machine, fresh}
 use Rattle.partition.specs.Reached.{Move, after_moves}
 use Rattle.network.specs.Network.{Network, desc_at}
@@ -24,12 +24,11 @@ act_line name step (Rang handle) = ring_line name step handle
 act_line name step (Start handle entry load) = start_line name step handle entry load
 act_line name step (Stop handle) = stop_line name step handle
 act_line name step (Restart handle) = restart_line name step handle
-act_line name step (CopyTo handle count) = copy_to_line name step handle count
+act_line name step (CopyTo handle pieces) = copy_to_line name step handle (size_of pieces)
 act_line name step (CopyFrom handle count) = copy_from_line name step handle count
 act_line name step SelfStop = self_stop_line name step
 act_line name step SelfRestart = self_restart_line name step
 act_line name step Faulted = faulted_line name step
-act_line name step NotBuilt = []
 
 abbrev pub traced_line : List ℕ → Traced → List ℕ
 traced_line name traced = act_line name traced.step traced.act
@@ -62,18 +61,9 @@ end_lines network given world = machine_lines 0 network.descs world.machines ++ 
 
 -- ---- the report
 
--- the place of a partition's own step
-abbrev pub step_place : ℕ → List ℕ
-step_place step = codes "step " ++ decimal step
-
--- a step that isn't built ends the report in place of its last lines
-abbrev pub last_lines : Option ℕ → List ℕ → List ℕ
-last_lines None lines = lines
-last_lines (Some step) lines = refused_line (codes "N1") (step_place step)
-
 -- by all that each console was given up to the last turn
 unfoldable pub text_of : Network → (ℕ → List ℕ) → Passage → List ℕ
-text_of network given done = act_lines network done.lines ++ last_lines done.unbuilt (end_lines network given done.after)
+text_of network given done = act_lines network done.lines ++ end_lines network given done.after
 
 -- the report of so many turns
 abbrev pub report : Network → Script → ℕ → List ℕ
@@ -84,12 +74,6 @@ report network script turns = text_of network (given_at script turns) (run netwo
 abbrev pub trace_lines : List ℕ → List Traced → List ℕ
 trace_lines name trace = flat_map (traced_line name) trace
 
--- nothing where a step ended the run
-abbrev pub unless_unbuilt : Option ℕ → List ℕ → List ℕ
-unless_unbuilt None line = line
-unless_unbuilt (Some step) line = []
-
 -- what its own moves, from its fresh machine on, come to as text
-unfoldable pub own_text : Desc → Option ℕ → List Move → List ℕ
-own_text desc unbuilt moves =
-    trace_lines desc.name (trace_of desc moves (fresh desc)) ++ unless_unbuilt unbuilt (machine_line desc.name (after_moves desc moves (fresh desc)))
+unfoldable pub own_text : Desc → List Move → List ℕ
+own_text desc moves = trace_lines desc.name (trace_of desc moves (fresh desc)) ++ machine_line desc.name (after_moves desc moves (fresh desc))

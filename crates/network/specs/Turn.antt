@@ -1,9 +1,12 @@
 -- Turns, and a run of turns.
-use Rattle.std.specs.Prelude.{ℕ, zero, suc, ◌+◌, ◌-◌, ◌%◌, Bool, true, false, if◌then◌else◌, List, [], ◌∷◌, ◌++◌, length, map, slice_get, Option, Some, None}
+use Rattle.std.specs.Prelude.{ℕ, zero, suc, ◌+◌, ◌-◌, ◌%◌, Bool, true, false, if◌then◌else◌, List, [], ◌∷◌, ◌++◌, length, map, flat_map, slice_get, Option, Some, None}
 use Rattle.machine_desc.specs.declared.act.State.{State}
 use Rattle.machine_desc.specs.declared.act.State.TheVariants.{Running}
-use Rattle.partition.specs.Act.{Act, NotBuilt}
+use Rattle.machine_desc.specs.declared.desc.Span.{Span}
+use Rattle.partition.specs.Regions.{areas_of}
 use Rattle.partition.specs.Machine.{Machine}
+use Rattle.partition.specs.Copying.{own_bytes}
+use Rattle.partition.specs.Asking.{Asked, asks}
 use Rattle.partition.specs.Step.{Stepped, step}
 use Rattle.partition.specs.Reached.{Steps}
 use Rattle.network.specs.Network.{Network, desc_at, Seat, owner_of}
@@ -14,9 +17,16 @@ use Rattle.network.specs.Effects.{brought, shown, printed_by}
 
 -- ---- a step in the network
 
--- NOT BUILT YET: what a step copies out of a managed partition. So far it copies nothing.
+-- the bytes of a range of a partition's memory
+abbrev pub bytes_of : Network → List Machine → ℕ → Span → List ℕ
+bytes_of network machines part range = own_bytes (areas_of (desc_at network part).regions) (machine_at machines part).memory range.at range.size
+
+abbrev pub fed : Network → List Machine → Asked → List ℕ
+fed network machines asked = flat_map (bytes_of network machines asked.part) asked.ranges
+
+-- what a step copies out of a managed partition: the bytes of the ranges that it asks for
 abbrev pub feed_for : Network → List Machine → ℕ → ℕ → List ℕ
-feed_for network machines part core = []
+feed_for network machines part core = fed network machines (asks (desc_at network part) (machine_at machines part) core)
 
 abbrev pub done_by : Network → List Machine → ℕ → ℕ → Stepped
 done_by network machines part core =
@@ -36,21 +46,11 @@ after_step network part core world done = record {
   };
   log = log_of network world.machines part core done;
   lines = line_of part (record { step = done.after.inner.steps; act = done.act }) ∷ [];
-  unbuilt = None;
 }
-
--- the run ends before a step that isn't built
-abbrev pub ended : ℕ → World → Passage
-ended part world = record (passed world) { unbuilt = Some ((machine_at world.machines part).inner.steps + 1) }
-
-abbrev pub after_act : Network → ℕ → ℕ → World → Stepped → Act → Passage
-after_act network part core world done NotBuilt = ended part world
-after_act network part core world done _ = after_step network part core world done
 
 -- a core of a partition does a step
 unfoldable pub steps_in : Network → ℕ → ℕ → World → Passage
-steps_in network part core world =
-    let done : Stepped = done_by network world.machines part core in after_act network part core world done done.act
+steps_in network part core world = after_step network part core world (done_by network world.machines part core)
 
 -- ---- a turn
 

@@ -1,5 +1,5 @@
 -- What a network holds, and how it goes on: by a log of changes.
-use Rattle.std.specs.Prelude.{ℕ, ◌==◌, if◌then◌else◌, List, [], ◌∷◌, ◌++◌, map, flat_map, replicate, length, slice_index_or, slice_set, Option, Some, None}
+use Rattle.std.specs.Prelude.{ℕ, ◌==◌, if◌then◌else◌, List, [], ◌∷◌, ◌++◌, map, flat_map, replicate, length, slice_index_or, slice_set}
 use Rattle.partition.specs.Event.{Event}
 use Rattle.partition.specs.Machine.{Machine, fresh}
 use Rattle.partition.specs.Reached.{Move, Takes}
@@ -92,22 +92,15 @@ pub record Passage : Type 0 where
   pub log : List Entry
   -- all that steps did
   pub lines : List Line
-  -- The step that ended it, by its number among its partition's own, since it isn't built. Nothing happened in that step.
-  pub unbuilt : Option ℕ
 
 -- nothing happens
 abbrev pub passed : World → Passage
-passed world = record { after = world; log = []; lines = []; unbuilt = None }
+passed world = record { after = world; log = []; lines = [] }
 
--- one passage and what comes behind it, unless a step ended it
-abbrev pub then_unless : Option ℕ → Passage → (World → Passage) → Passage
-then_unless None first rest = record {
+-- one passage and what comes behind it
+abbrev pub and_then : Passage → (World → Passage) → Passage
+and_then first rest = record {
   after = (rest first.after).after;
   log = first.log ++ (rest first.after).log;
   lines = first.lines ++ (rest first.after).lines;
-  unbuilt = (rest first.after).unbuilt;
 }
-then_unless (Some step) first rest = first
-
-abbrev pub and_then : Passage → (World → Passage) → Passage
-and_then first rest = then_unless first.unbuilt first rest
