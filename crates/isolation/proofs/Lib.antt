@@ -1,0 +1,13 @@
+pub mod Each
+pub mod Passing
+pub mod Alone
+pub mod Links
+pub mod Joins
+pub mod Ports
+pub mod Flow
+pub mod Brings
+pub mod Returns
+pub mod Keeps
+pub mod Actings
+pub mod Fits
+pub mod SmallCase

@@ -1,0 +1,4 @@
+pub mod Isolation
+pub mod Laws
+pub mod Agreement
+pub mod Example

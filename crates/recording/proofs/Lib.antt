@@ -1,0 +1,5 @@
+pub mod Along
+pub mod Fitting
+pub mod Growing
+pub mod Replaying
+pub mod SmallCases
