@@ -1,5 +1,5 @@
 -- The machines after a step, what others saw of it, and the events of its act.
-use Rattle.std.proofs.Common.{◌≡◌, ◌≢◌, ℕ, zero, suc, ◌+◌, ◌-◌, ◌<◌, ◌==◌, Bool, true, false, List, [], ◌∷◌, length, map, slice_index_or, slice_set, Option, Some, refl, sym, ap, subst, ◌∙◌, arith}
+use Rattle.std.proofs.Common.{◌≡◌, ◌≢◌, ℕ, zero, suc, ◌+◌, ◌-◌, ◌<◌, ◌==◌, Bool, true, false, List, [], ◌∷◌, length, map, slice_index_or, slice_set, Some, refl, sym, ap, subst, ◌∙◌, arith}
 use Rattle.std.proofs.lemmas.Bool.{eqb-true, eqb-false, eq-eqb}
 use Rattle.std.proofs.lemmas.List.{length-map}
 use Rattle.core_step.specs.declared.answer.Wrote.{Wrote}
@@ -24,27 +24,28 @@ use Rattle.system.proofs.Handles.{is_there}
 use Rattle.system.proofs.Seen.{ends_sent}
 use Rattle.system.proofs.Far.{IsOwn, own, part_wires}
 use Rattle.system.proofs.Delivered.{ChangesPorts, given_if, bytes_come, room_comes, one_event}
-use Rattle.system.proofs.Shown.{after_shown, desc_there}
+use Rattle.system.proofs.Shown.{after_shown}
+use Rattle.system.proofs.Fed.{desc_there}
 use Rattle.system.proofs.Told.{IsHeard, heard_long, own_told, other_told, all_machines, shown_length}
 use Rattle.system.proofs.Sendings.{far_elsewhere, sent_other, taken_other, taken_from_console}
 
 -- ---- no event, and one
 
 -- what is left once the act is settled
-abbrev pub left_by : Held → List Member → List (List ℕ) → Lines → List Counts → Option ℕ → Held
-left_by held parts memory lines counts unbuilt = record { parts = parts; memory = memory; lines = lines; wiring = held.wiring; counts = counts; unbuilt = unbuilt }
+abbrev pub left_by : Held → List Member → List (List ℕ) → Lines → List Counts → Held
+left_by held parts memory lines counts = record { parts = parts; memory = memory; lines = lines; wiring = held.wiring; counts = counts }
 
-pub none_machines : (held : Held) (stepped heard : List Member) (memory : List (List ℕ)) (lines left : Lines) (core : ℕ) (act : Told) (ranges : List Wrote) (counts : List Counts) (unbuilt : Option ℕ)
+pub none_machines : (held : Held) (stepped heard : List Member) (memory : List (List ℕ)) (lines left : Lines) (core : ℕ) (act : Told) (ranges : List Wrote) (counts : List Counts)
     → IsHeard held stepped heard memory lines core act ranges
     → machine_by (part_at heard held.lines.who) left memory held.lines.who ≡ machine_by (part_at heard held.lines.who) lines memory held.lines.who
     → ((part : ℕ) → part < length held.parts → part ≢ held.lines.who → machine_by (part_at heard part) left memory part ≡ machine_by (part_at heard part) held.lines memory part)
-    → machines_of (left_by held heard memory left counts unbuilt) ≡ after_log (network_of held) [] (after_shown (network_of held) (machines_of held) held.lines.who core)
-none_machines held stepped heard memory lines left core act ranges counts unbuilt h own_is others =
+    → machines_of (left_by held heard memory left counts) ≡ after_log (network_of held) [] (after_shown (network_of held) (machines_of held) held.lines.who core)
+none_machines held stepped heard memory lines left core act ranges counts h own_is others =
     let network : Network = network_of held in
     let machines : List Machine = after_shown network (machines_of held) held.lines.who core in
     let long = heard_long held stepped heard memory lines core act ranges h in
     let shown_long = shown_length held held.lines.who core in
-    all_machines (left_by held heard memory left counts unbuilt) network [] machines (omega (arith, long, shown_long)) (λ part there. by_place part (omega (arith, there, shown_long)) (part == held.lines.who) refl)
+    all_machines (left_by held heard memory left counts) network [] machines (omega (arith, long, shown_long)) (λ part there. by_place part (omega (arith, there, shown_long)) (part == held.lines.who) refl)
   where
     by_place : (part : ℕ) → part < length held.parts → (b : Bool) → (part == held.lines.who) ≡ b
         → machine_by (part_at heard part) left memory part ≡ machine_at (after_shown (network_of held) (machines_of held) held.lines.who core) part
@@ -53,20 +54,20 @@ none_machines held stepped heard memory lines left core act ranges counts unbuil
         subst (λ (n : ℕ). machine_by (part_at heard n) left memory n ≡ machine_at (after_shown (network_of held) (machines_of held) held.lines.who core) n) (sym (eqb-true part held.lines.who e))
         (own_is ∙ sym (own_told held stepped heard memory lines core act ranges h))
 
-pub event_machines : (held : Held) (stepped heard : List Member) (memory : List (List ℕ)) (lines left : Lines) (core : ℕ) (act : Told) (ranges : List Wrote) (counts : List Counts) (unbuilt : Option ℕ)
+pub event_machines : (held : Held) (stepped heard : List Member) (memory : List (List ℕ)) (lines left : Lines) (core : ℕ) (act : Told) (ranges : List Wrote) (counts : List Counts)
     (target : ℕ) (event : Event) (f : List End → List End)
     → IsHeard held stepped heard memory lines core act ranges → ChangesPorts event f
     → machine_by (part_at heard held.lines.who) left memory held.lines.who ≡ given_if (target == held.lines.who) f (machine_by (part_at heard held.lines.who) lines memory held.lines.who)
     → ((part : ℕ) → part < length held.parts → part ≢ held.lines.who
     → machine_by (part_at heard part) left memory part ≡ given_if (target == part) f (machine_by (part_at heard part) held.lines memory part))
-    → machines_of (left_by held heard memory left counts unbuilt)
+    → machines_of (left_by held heard memory left counts)
     ≡ after_log (network_of held) (delivered (to_part target event) ∷ []) (after_shown (network_of held) (machines_of held) held.lines.who core)
-event_machines held stepped heard memory lines left core act ranges counts unbuilt target event f h changes own_is others =
+event_machines held stepped heard memory lines left core act ranges counts target event f h changes own_is others =
     let network : Network = network_of held in
     let machines : List Machine = after_shown network (machines_of held) held.lines.who core in
     let long = heard_long held stepped heard memory lines core act ranges h in
     let shown_long = shown_length held held.lines.who core in
-    all_machines (left_by held heard memory left counts unbuilt) network (delivered (to_part target event) ∷ []) machines (omega (arith, long, shown_long))
+    all_machines (left_by held heard memory left counts) network (delivered (to_part target event) ∷ []) machines (omega (arith, long, shown_long))
     (λ part there. by_place part (omega (arith, there, shown_long)) (part == held.lines.who) refl ∙ sym (one_event network machines target part event f there changes))
   where
     by_place : (part : ℕ) → part < length held.parts → (b : Bool) → (part == held.lines.who) ≡ b
@@ -113,38 +114,38 @@ sent_lines lines handle bytes = record lines { channels = sent_by lines.channels
 abbrev pub taken_lines : Lines → ℕ → ℕ → Lines
 taken_lines lines handle count = record lines { channels = taken_by lines.channels (own_wire lines handle) count }
 
-pub sent_to_part : (held : Held) (stepped heard : List Member) (memory : List (List ℕ)) (core : ℕ) (act : Told) (ranges : List Wrote) (counts : List Counts) (unbuilt : Option ℕ) (handle : ℕ) (bytes : List ℕ) (ref : PortRef)
+pub sent_to_part : (held : Held) (stepped heard : List Member) (memory : List (List ℕ)) (core : ℕ) (act : Told) (ranges : List Wrote) (counts : List Counts) (handle : ℕ) (bytes : List ℕ) (ref : PortRef)
     → IsHeard held stepped heard memory (sent_lines held.lines handle bytes) core act ranges → IsChannel held handle → far_of (network_of held) held.lines.who handle ≡ Some (Part ref)
-    → machines_of (left_by held heard memory (sent_lines held.lines handle bytes) counts unbuilt)
+    → machines_of (left_by held heard memory (sent_lines held.lines handle bytes) counts)
     ≡ after_log (network_of held) (map delivered (sent_to (Some (Part ref)) held.lines.who handle bytes)) (after_shown (network_of held) (machines_of held) held.lines.who core)
-sent_to_part held stepped heard memory core act ranges counts unbuilt handle bytes ref h sort far =
+sent_to_part held stepped heard memory core act ranges counts handle bytes ref h sort far =
     let who : ℕ = held.lines.who in
     let left : Lines = sent_lines held.lines handle bytes in
     let f : List End → List End = λ l. come_on l ref.handle bytes in
     let kept = h.is.kept in
-    event_machines held stepped heard memory left left core act ranges counts unbuilt ref.part (Bytes ref.handle bytes) f h (bytes_come ref.handle bytes)
+    event_machines held stepped heard memory left left core act ranges counts ref.part (Bytes ref.handle bytes) f h (bytes_come ref.handle bytes)
     (given_not ref.part who f (machine_by (part_at heard who) left memory who) (far_elsewhere (network_of held) who handle ref kept.joined (own_end held handle kept h.is.who sort) far))
     (λ part there ne. sent_other held (part_at heard part) memory handle part bytes ref kept h.is.who there ne sort far)
 
-pub taken_from_part : (held : Held) (stepped heard : List Member) (memory : List (List ℕ)) (core : ℕ) (act : Told) (ranges : List Wrote) (counts : List Counts) (unbuilt : Option ℕ) (handle count : ℕ) (ref : PortRef)
+pub taken_from_part : (held : Held) (stepped heard : List Member) (memory : List (List ℕ)) (core : ℕ) (act : Told) (ranges : List Wrote) (counts : List Counts) (handle count : ℕ) (ref : PortRef)
     → IsHeard held stepped heard memory (taken_lines held.lines handle count) core act ranges → IsChannel held handle → far_of (network_of held) held.lines.who handle ≡ Some (Part ref)
-    → machines_of (left_by held heard memory (taken_lines held.lines handle count) counts unbuilt)
+    → machines_of (left_by held heard memory (taken_lines held.lines handle count) counts)
     ≡ after_log (network_of held) (map delivered (room_at (Some (Part ref)) count)) (after_shown (network_of held) (machines_of held) held.lines.who core)
-taken_from_part held stepped heard memory core act ranges counts unbuilt handle count ref h sort far =
+taken_from_part held stepped heard memory core act ranges counts handle count ref h sort far =
     let who : ℕ = held.lines.who in
     let left : Lines = taken_lines held.lines handle count in
     let f : List End → List End = λ l. freed_on l ref.handle count in
     let kept = h.is.kept in
-    event_machines held stepped heard memory left left core act ranges counts unbuilt ref.part (Room ref.handle count) f h (room_comes ref.handle count)
+    event_machines held stepped heard memory left left core act ranges counts ref.part (Room ref.handle count) f h (room_comes ref.handle count)
     (given_not ref.part who f (machine_by (part_at heard who) left memory who) (far_elsewhere (network_of held) who handle ref kept.joined (own_end held handle kept h.is.who sort) far))
     (λ part there ne. taken_other held (part_at heard part) memory handle part count ref kept h.is.who there ne sort far)
 
-pub taken_at_console : (held : Held) (stepped heard : List Member) (memory : List (List ℕ)) (core : ℕ) (act : Told) (ranges : List Wrote) (counts : List Counts) (unbuilt : Option ℕ) (handle count console : ℕ)
+pub taken_at_console : (held : Held) (stepped heard : List Member) (memory : List (List ℕ)) (core : ℕ) (act : Told) (ranges : List Wrote) (counts : List Counts) (handle count console : ℕ)
     → IsHeard held stepped heard memory (taken_lines held.lines handle count) core act ranges → IsChannel held handle → far_of (network_of held) held.lines.who handle ≡ Some (Console console)
-    → machines_of (left_by held heard memory (taken_lines held.lines handle count) counts unbuilt)
+    → machines_of (left_by held heard memory (taken_lines held.lines handle count) counts)
     ≡ after_log (network_of held) (map delivered (room_at (Some (Console console)) count)) (after_shown (network_of held) (machines_of held) held.lines.who core)
-taken_at_console held stepped heard memory core act ranges counts unbuilt handle count console h sort far =
-    none_machines held stepped heard memory (taken_lines held.lines handle count) (taken_lines held.lines handle count) core act ranges counts unbuilt h refl
+taken_at_console held stepped heard memory core act ranges counts handle count console h sort far =
+    none_machines held stepped heard memory (taken_lines held.lines handle count) (taken_lines held.lines handle count) core act ranges counts h refl
     (λ part there ne. taken_from_console held (part_at heard part) memory handle part count console h.is.kept h.is.who there ne sort far)
 
 -- ---- a console prints at once
@@ -185,13 +186,13 @@ printed_own held own_part memory handle bytes kept there sort =
     (sym (freed_back ends handle (length bytes) (omega (arith, below, count))) ∙ ap (λ (l : List End). freed_on l handle (length bytes)) (sym sent))
     ∙ ap (λ (b : Bool). given_if b (λ (l : List End). freed_on l handle (length bytes)) (machine_by own_part (sent_lines lines handle bytes) memory who)) (sym (eq-eqb who who refl))
 
-pub sent_to_console : (held : Held) (stepped heard : List Member) (memory : List (List ℕ)) (core : ℕ) (act : Told) (ranges : List Wrote) (counts : List Counts) (unbuilt : Option ℕ) (handle : ℕ) (bytes : List ℕ) (console : ℕ)
+pub sent_to_console : (held : Held) (stepped heard : List Member) (memory : List (List ℕ)) (core : ℕ) (act : Told) (ranges : List Wrote) (counts : List Counts) (handle : ℕ) (bytes : List ℕ) (console : ℕ)
     → IsHeard held stepped heard memory (sent_lines held.lines handle bytes) core act ranges → IsChannel held handle
-    → machines_of (left_by held heard memory held.lines counts unbuilt)
+    → machines_of (left_by held heard memory held.lines counts)
     ≡ after_log (network_of held) (map delivered (sent_to (Some (Console console)) held.lines.who handle bytes)) (after_shown (network_of held) (machines_of held) held.lines.who core)
-sent_to_console held stepped heard memory core act ranges counts unbuilt handle bytes console h sort =
+sent_to_console held stepped heard memory core act ranges counts handle bytes console h sort =
     let who : ℕ = held.lines.who in
     let f : List End → List End = λ l. freed_on l handle (length bytes) in
-    event_machines held stepped heard memory (sent_lines held.lines handle bytes) held.lines core act ranges counts unbuilt who (Room handle (length bytes)) f h (room_comes handle (length bytes))
+    event_machines held stepped heard memory (sent_lines held.lines handle bytes) held.lines core act ranges counts who (Room handle (length bytes)) f h (room_comes handle (length bytes))
     (printed_own held (part_at heard who) memory handle bytes h.is.kept h.is.who sort)
     (λ part there ne. given_not who part f (machine_by (part_at heard part) held.lines memory part) (λ (q : who ≡ part). ne (sym q)))

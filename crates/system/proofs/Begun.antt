@@ -1,5 +1,5 @@
 -- The machines where a partition was started, restarted or stopped by its manager, or restarted itself.
-use Rattle.std.proofs.Common.{◌≡◌, ℕ, ◌<◌, ◌==◌, Bool, true, false, if◌then◌else◌, List, [], ◌∷◌, length, length-set, map, slice_set, Option, refl, sym, ap, subst, ◌∙◌, arith}
+use Rattle.std.proofs.Common.{◌≡◌, ℕ, ◌<◌, ◌==◌, Bool, true, false, if◌then◌else◌, List, [], ◌∷◌, length, length-set, map, slice_set, refl, sym, ap, subst, ◌∙◌, arith}
 use Rattle.std.specs.List.{list_any}
 use Rattle.std.proofs.lemmas.Bool.{eqb-true, eqb-false, eq-eqb}
 use Rattle.std.proofs.lemmas.List.{length-map, get_or-set_same, get_or-set_other}
@@ -28,7 +28,8 @@ use Rattle.system.proofs.Loaded.{private_apart, own_same}
 use Rattle.system.proofs.Emptied.{freed_all, rooms_free, own_emptied, others_freed, own_unfreed, from_first}
 use Rattle.system.proofs.Opened.{machine_there}
 use Rattle.system.proofs.Delivered.{with_ports}
-use Rattle.system.proofs.Shown.{after_shown, desc_there}
+use Rattle.system.proofs.Shown.{after_shown}
+use Rattle.system.proofs.Fed.{desc_there}
 use Rattle.system.proofs.Told.{IsHeard, heard_long, heard_desc}
 use Rattle.system.proofs.Acts.{left_by}
 use Rattle.system.proofs.Commanded.{IsCommand, marked_other}
@@ -71,7 +72,7 @@ room_there held part other desc machine kept here =
 
 -- ---- another partition's memory
 
-unnamed_private : (held : Held) (part other extent : ℕ) → IsSystem held → part < length held.parts → other < length held.parts → (other ≡ part → ⊥)
+pub unnamed_private : (held : Held) (part other extent : ℕ) → IsSystem held → part < length held.parts → other < length held.parts → (other ≡ part → ⊥)
     → list_any (λ (region : Region). region.extent == extent) (part_at held.parts other).desc.regions ≡ true → is_private_extent (part_at held.parts part).desc.regions extent ≡ false
 unnamed_private held part other extent kept here there ne named = by_case (is_private_extent (part_at held.parts part).desc.regions extent) refl
   where
@@ -107,16 +108,16 @@ no_room : (held : Held) (part : ℕ) (desc : Desc) (machine : Machine) → IsSys
 no_room held part desc machine kept here =
     room_there held part part desc machine kept here ∙ ap (λ (l : List End). with_ports l machine) (unfreed_in held part machine.ports kept here)
 
-pub self_restarted_machines : (held : Held) (stepped heard : List Member) (memory : List (List ℕ)) (lines : Lines) (core : ℕ) (act : Told) (ranges : List Wrote) (counts : List Counts) (unbuilt : Option ℕ)
+pub self_restarted_machines : (held : Held) (stepped heard : List Member) (memory : List (List ℕ)) (lines : Lines) (core : ℕ) (act : Told) (ranges : List Wrote) (counts : List Counts)
     → IsHeard held stepped heard memory lines core act ranges → lines ≡ emptied_lines held.lines held.lines.who
-    → machines_of (left_by held heard memory lines counts unbuilt)
+    → machines_of (left_by held heard memory lines counts)
     ≡ after_log (network_of held) (map delivered (returned_room (network_of held) (machines_of held) held.lines.who)) (after_shown (network_of held) (machines_of held) held.lines.who core)
-self_restarted_machines held stepped heard memory lines core act ranges counts unbuilt h is =
+self_restarted_machines held stepped heard memory lines core act ranges counts h is =
     let who : ℕ = held.lines.who in
     let network : Network = network_of held in
     let kept = h.is.kept in
     let here = h.is.who in
-    logged_machines held stepped heard heard memory memory lines lines core act ranges counts unbuilt (map delivered (returned_room network (machines_of held) who)) h
+    logged_machines held stepped heard heard memory memory lines lines core act ranges counts (map delivered (returned_room network (machines_of held) who)) h
     (heard_long held stepped heard memory lines core act ranges h)
     (sym (no_room held who (desc_at network who) (machine_by (part_at heard who) lines memory who) kept here))
     (
@@ -128,14 +129,14 @@ self_restarted_machines held stepped heard memory lines core act ranges counts u
 
 -- ---- a partition that its manager starts or restarts
 
-given_other : (desc : Desc) (target part : ℕ) (event : Event) (machine : Machine) → (target ≡ part → ⊥) → given_to desc part (to_part target event) machine ≡ machine
+pub given_other : (desc : Desc) (target part : ℕ) (event : Event) (machine : Machine) → (target ≡ part → ⊥) → given_to desc part (to_part target event) machine ≡ machine
 given_other desc target part event machine ne = by_part (target == part) refl
   where
     by_part : (b : Bool) → (target == part) ≡ b → given_to desc part (to_part target event) machine ≡ machine
     by_part false e = ap (λ (b : Bool). if b then apply desc machine event else machine) e
     by_part true e = absurd (ne (eqb-true target part e))
 
-given_own : (desc : Desc) (part : ℕ) (event : Event) (machine : Machine) → given_to desc part (to_part part event) machine ≡ apply desc machine event
+pub given_own : (desc : Desc) (part : ℕ) (event : Event) (machine : Machine) → given_to desc part (to_part part event) machine ≡ apply desc machine event
 given_own desc part event machine = ap (λ (b : Bool). if b then apply desc machine event else machine) (eq-eqb part part refl)
 
 -- the ends of the managed one don't show that it is marked
@@ -147,13 +148,13 @@ ends_unmarked held handle runs kept it =
 other_there : (parts rung : List Member) (managed part : ℕ) (own : Member) → rung ≡ slice_set parts managed own → (part ≡ managed → ⊥) → part_at rung part ≡ part_at parts part
 other_there parts rung managed part own e ne = ap (λ (ps : List Member). part_at ps part) e ∙ get_or-set_other parts managed part own no_part ne
 
-pub begun_machines : (held : Held) (stepped heard rung : List Member) (memory loaded : List (List ℕ)) (lines left : Lines) (core : ℕ) (act : Told) (ranges : List Wrote) (counts : List Counts) (unbuilt : Option ℕ) (handle : ℕ) (event : Event)
+pub begun_machines : (held : Held) (stepped heard rung : List Member) (memory loaded : List (List ℕ)) (lines left : Lines) (core : ℕ) (act : Told) (ranges : List Wrote) (counts : List Counts) (handle : ℕ) (event : Event)
     → IsHeard held stepped heard memory lines core act ranges → (it : IsCommand held handle) → lines ≡ marked_lines held.lines it.managed true
     → Begins event it.managed heard rung memory loaded → left ≡ emptied_lines (marked_lines held.lines it.managed true) it.managed
-    → machines_of (left_by held rung loaded left counts unbuilt)
+    → machines_of (left_by held rung loaded left counts)
     ≡ after_log (network_of held) (map delivered (to_part it.managed event ∷ returned_room (network_of held) (machines_of held) it.managed)) (after_shown (network_of held) (machines_of held) held.lines.who core)
-begun_machines held stepped heard rung memory loaded lines left core act ranges counts unbuilt handle event h it is b l =
-    logged_machines held stepped heard rung memory loaded lines left core act ranges counts unbuilt (map delivered (to_part managed event ∷ returned_room network (machines_of held) managed)) h
+begun_machines held stepped heard rung memory loaded lines left core act ranges counts handle event h it is b l =
+    logged_machines held stepped heard rung memory loaded lines left core act ranges counts (map delivered (to_part managed event ∷ returned_room network (machines_of held) managed)) h
     (ap length b.parts ∙ (length-set heard managed (part_at rung managed) ∙ heard_long held stepped heard memory lines core act ranges h))
     (away who h.is.who (λ e. it.apart (sym e)) (machine_by (part_at heard who) lines memory who) (ap (λ (ls : Lines). machine_by (part_at heard who) ls memory who) (sym is)))
     (λ part there ne. by_part part there ne (part == managed) refl)
@@ -240,13 +241,13 @@ stop_is : (desc : Desc) (own : Member) (ends : List End) (memory : List (List �
 unfolding apply
 stop_is desc own ends memory = refl
 
-pub stopped_machines : (held : Held) (stepped heard rung : List Member) (memory : List (List ℕ)) (lines left : Lines) (core : ℕ) (act : Told) (ranges : List Wrote) (counts : List Counts) (unbuilt : Option ℕ) (handle : ℕ)
+pub stopped_machines : (held : Held) (stepped heard rung : List Member) (memory : List (List ℕ)) (lines left : Lines) (core : ℕ) (act : Told) (ranges : List Wrote) (counts : List Counts) (handle : ℕ)
     → IsHeard held stepped heard memory lines core act ranges → (it : IsCommand held handle) → lines ≡ marked_lines held.lines it.managed false
     → rung ≡ slice_set heard it.managed (stopped_part (part_at heard it.managed)) → left ≡ marked_lines held.lines it.managed false
-    → machines_of (left_by held rung memory left counts unbuilt)
+    → machines_of (left_by held rung memory left counts)
     ≡ after_log (network_of held) (map delivered (to_part it.managed Stop ∷ [])) (after_shown (network_of held) (machines_of held) held.lines.who core)
-stopped_machines held stepped heard rung memory lines left core act ranges counts unbuilt handle h it is r l =
-    logged_machines held stepped heard rung memory memory lines left core act ranges counts unbuilt (map delivered (to_part it.managed Stop ∷ [])) h
+stopped_machines held stepped heard rung memory lines left core act ranges counts handle h it is r l =
+    logged_machines held stepped heard rung memory memory lines left core act ranges counts (map delivered (to_part it.managed Stop ∷ [])) h
     (ap length r ∙ (length-set heard it.managed (stopped_part (part_at heard it.managed)) ∙ heard_long held stepped heard memory lines core act ranges h))
     (away held.lines.who h.is.who (λ e. it.apart (sym e)) (machine_by (part_at heard held.lines.who) lines memory held.lines.who) (ap (λ (ls : Lines). machine_by (part_at heard held.lines.who) ls memory held.lines.who) (sym is)))
     (λ part there ne. by_part part there ne (part == it.managed) refl)

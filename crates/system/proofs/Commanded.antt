@@ -1,5 +1,5 @@
 -- A manager's own machine after its command, and that of a partition that restarts itself.
-use Rattle.std.proofs.Common.{◌≡◌, ℕ, ◌+◌, ◌-◌, ◌<◌, ◌==◌, Bool, true, false, not, ◌&&◌, List, length, slice_index_or, Option, Some, None, refl, sym, ap, subst, ◌∙◌, arith}
+use Rattle.std.proofs.Common.{◌≡◌, ℕ, ◌+◌, ◌-◌, ◌<◌, ◌==◌, Bool, true, false, not, ◌&&◌, List, [], length, slice_index_or, Option, Some, None, refl, sym, ap, subst, ◌∙◌, arith}
 use Rattle.std.specs.Option.{option_map_or, option_and_then}
 use Rattle.std.proofs.lemmas.Bool.{and_parts, false≢true, eqb-true, eq-eqb, ltb-true}
 use Rattle.std.proofs.lemmas.List.{length-map}
@@ -13,16 +13,17 @@ use Rattle.partition.specs.declared.kind.Kind.{Kind}
 use Rattle.partition.specs.declared.kind.Kind.TheVariants as kind
 use Rattle.partition.specs.Port.{End, kind_at, told_on, emptied, kinds_of as described_kinds}
 use Rattle.partition.specs.Act.{act_of, settled}
-use Rattle.partition.specs.Lending.{Part as Member, machine_of, Did, HasHandle}
+use Rattle.partition.specs.Lending.{Part as Member, machine_of, HasHandle}
 use Rattle.network.specs.Network.{Network, no_desc, ref_to, manager_of, managed as managed_of, managed_by as managed_by_network}
 use Rattle.system.specs.declared.wire.Wire.{Wire}
 use Rattle.system.specs.declared.wire.Wire.TheVariants.{Channel, Send, Receive, Manage}
-use Rattle.system.specs.Board.{Lines, kind_of, kinds_of, no_wire, own_ends, own_wire, ends_of, wire_at, wires_at, is_tied, AreWires, all_cleared, emptied_lines, Sends, Takes}
+use Rattle.system.specs.Board.{Lines, kind_of, kinds_of, no_wire, own_ends, own_wire, ends_of, wire_at, wires_at, is_tied, AreWires, all_cleared, emptied_lines, managed_by}
 use Rattle.system.specs.Wired.{wire_of}
 use Rattle.system.specs.Channels.{wires_of}
 use Rattle.system.specs.System.{Held, part_at, descs_of, network_of, machine_by, IsSystem}
-use Rattle.system.specs.Turning.{managed_by, marked_lines}
+use Rattle.system.specs.Turning.{marked_lines}
 use Rattle.system.proofs.Handles.{IsThere, is_there}
+use Rattle.system.proofs.Given.{Gives}
 use Rattle.system.proofs.Tied.{joined_parts, handle_joined, wires_length, wire_there, wires_there, ports_joined}
 use Rattle.system.proofs.Far.{part_wires}
 use Rattle.system.proofs.Delivered.{given_if}
@@ -197,9 +198,9 @@ own_lent : (held : Held) (lent : Lines) (own : Member) (memory : List (List ℕ)
 own_lent held lent own memory e = ap (λ (n : ℕ). machine_of own (ends_of lent.channels lent.running (wires_at lent.wires n)) memory) e
 
 -- then the machine of the partition that stepped is that of the definition
-pub lent_machine : (held : Held) (lent : Lines) (own : Member) (memory : List (List ℕ)) (act : Told) → IsSystem held → held.lines.who < length held.parts → Did Sends Takes act held.lines lent
+pub lent_machine : (held : Held) (lent : Lines) (own : Member) (memory : List (List ℕ)) (act : Told) → IsSystem held → held.lines.who < length held.parts → Gives act held.lines lent
     → HasHandle (described_kinds (part_at held.parts held.lines.who).desc.ports) act
-    → machine_of own (settled (act_of act) (own_ends lent)) memory ≡ machine_by own (settled_lines act lent) memory held.lines.who
+    → machine_of own (settled (act_of [] act) (own_ends lent)) memory ≡ machine_by own (settled_lines act lent) memory held.lines.who
 lent_machine held lent own memory (told.Start handle entry load) kept here did sort =
     subst (λ (ls : Lines). machine_of own (told_on (own_ends ls) handle true) memory ≡ machine_by own (marked_lines ls (managed_by (own_wire ls handle)) true) memory held.lines.who) (sym did)
     (commanded held handle own memory true kept here sort)
@@ -213,4 +214,6 @@ lent_machine held lent own memory told.SelfRestart kept here did sort =
     subst (λ (ls : Lines). machine_of own (emptied (own_ends ls)) memory ≡ machine_by own (emptied_lines ls ls.who) memory held.lines.who) (sym did) (emptied_own held own memory held.lines.who kept here)
 lent_machine held lent own memory (told.Sent handle bytes) kept here did sort = own_lent held lent own memory (ap (λ (ls : Lines). ls.who) did)
 lent_machine held lent own memory (told.Took handle count) kept here did sort = own_lent held lent own memory (ap (λ (ls : Lines). ls.who) did)
+lent_machine held lent own memory (told.CopyTo handle count) kept here did sort = own_lent held lent own memory (ap (λ (ls : Lines). ls.who) did)
+lent_machine held lent own memory (told.CopyFrom handle count) kept here did sort = own_lent held lent own memory (ap (λ (ls : Lines). ls.who) did)
 lent_machine held lent own memory _ kept here did sort = own_lent held lent own memory (ap (λ (ls : Lines). ls.who) did)

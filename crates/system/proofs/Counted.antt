@@ -221,7 +221,7 @@ prints_few (Some (Console console)) count counts k has few = by_place (k == cons
         record { printed = omega (arith, printed, old, few); entered = ap (λ (c : Counts). c.entered) same ∙ ap (λ (n : ℕ). (counts_at counts n).entered) (sym at) }
 
 act_prints_few : (network : Network) (who : ℕ) (act : Told) (counts : List Counts) (k : ℕ) → ((handle : ℕ) → HasConsole (length counts) (far_of network who handle)) → HasBytes act
-    → PrintsFew counts (printed_by network who (act_of act) counts) k
+    → PrintsFew counts (printed_by network who (act_of [] act) counts) k
 act_prints_few network who (told.Sent handle bytes) counts k has b = prints_few (far_of network who handle) (length bytes.items) counts k (has handle) b.1
 act_prints_few network who told.None counts k has b = none_printed counts k
 act_prints_few network who _ counts k has b = none_printed counts k
@@ -230,7 +230,7 @@ act_prints_few network who _ counts k has b = none_printed counts k
 
 pub turned_counted : (network : Network) (who : ℕ) (act : Told) (parts new : List Part) (lines left : Lines) (counts after : List Counts) → IsCounted parts lines counts → who < length parts
     → (part_at parts who).inner.steps < most_steps → CountsStep who parts new → ((handle : ℕ) → HasConsole (length counts) (far_of network who handle)) → HasBytes act
-    → after ≡ printed_by network who (act_of act) counts → IsCounted new left after
+    → after ≡ printed_by network who (act_of [] act) counts → IsCounted new left after
 turned_counted network who act parts new lines left counts after kept here few step has bytes e = record {
   steps = λ part there. let count = step.count in steps_of_one part (omega (arith, there, count)) (part == who) refl;
   printed = λ console.

@@ -250,6 +250,7 @@ entered_kept held console bytes kept here fits =
       running = kept.running;
       channels = ap (λ (w : Wire). length (sent_by held.lines.channels w bytes)) wire ∙ (length-set held.lines.channels it.place _ ∙ kept.channels);
       consoles = kept.consoles;
+      maps = kept.maps;
       counts = length-set held.counts console _ ∙ kept.counts;
       placed = kept.placed;
       taken = subst (λ (w : Wire). AreTaken held.wiring (sent_by held.lines.channels w bytes)) (sym wire)

@@ -1,5 +1,5 @@
 -- What a system keeps over a turn.
-use Rattle.std.proofs.Common.{◌≡◌, ◌≢◌, ℕ, ◌+◌, ◌<◌, ◌==◌, Bool, true, false, List, length, slice_index_or, slice_set, Option, Some, None, refl, sym, ap, subst, ◌∙◌, arith, length-set}
+use Rattle.std.proofs.Common.{◌≡◌, ◌≢◌, ℕ, ◌<◌, ◌==◌, Bool, true, false, List, [], length, map, slice_index_or, slice_set, Option, Some, None, refl, sym, ap, subst, ◌∙◌, arith, length-set}
 use Rattle.std.proofs.lemmas.Bool.{false≢true, eqb-true, eqb-false}
 use Rattle.std.proofs.lemmas.List.{length-map, get_or-map, get_or-set_same, get_or-set_other}
 use Rattle.byte_channel.specs.declared.side.Side.{Side}
@@ -17,24 +17,27 @@ use Rattle.fresh_load.specs.Placed.{ArePlaced, sizes_of}
 use Rattle.fresh_load.proofs.Places.{all_still_placed}
 use Rattle.partition.specs.declared.kind.Kind.TheVariants as kind
 use Rattle.partition.specs.Port.{kind_at, kinds_of as described_kinds}
-use Rattle.partition.specs.Act.{act_of, steps_after}
+use Rattle.partition.specs.Act.{act_of}
+use Rattle.copy_lists.specs.Pieces.{Piece}
+use Rattle.partition.specs.Copying.{Copy}
 use Rattle.partition.specs.Machine.{most_steps}
-use Rattle.partition.specs.Lending.{Part as Member, Did, HasHandle}
+use Rattle.partition.specs.Lending.{Part as Member, HasHandle}
 use Rattle.network.specs.Network.{no_desc, ref_to, far_of}
 use Rattle.network.specs.World.{Counts}
 use Rattle.network.specs.Effects.{count_printed, printed_by}
 use Rattle.system.specs.declared.wire.Wire.{Wire}
 use Rattle.system.specs.declared.wire.Wire.TheVariants.{Channel}
-use Rattle.system.specs.Board.{Lines, channel_at, kinds_of, wires_at, own_wire, emptied_lines, sent_by, taken_by, Sends, Takes}
-use Rattle.system.specs.Wired.{all_wires, console_side}
+use Rattle.system.specs.Board.{Lines, channel_at, kinds_of, wires_at, own_wire, emptied_lines, sent_by, taken_by, managed_by, told_by}
+use Rattle.system.specs.Wired.{all_wires, console_side, regions_of}
 use Rattle.system.specs.System.{Held, no_part, part_at, descs_of, network_of, AreTaken, IsSystem}
-use Rattle.system.specs.Turning.{HasConsole, Settles, managed_by, marked_lines, printed_lines, stopped_part}
+use Rattle.system.specs.Turning.{HasConsole, copied_part, marked_lines, printed_lines, stopped_part}
 use Rattle.system.proofs.Tied.{no_link, end_at}
 use Rattle.system.proofs.Far.{IsOwn}
 use Rattle.system.proofs.Opened.{same_lists}
 use Rattle.system.proofs.Emptied.{all_cleared_long, all_still_none}
 use Rattle.system.proofs.Entered.{still_taken, sent_taken}
 use Rattle.system.proofs.Rung.{keeps_desc, keeps_steps}
+use Rattle.system.proofs.Given.{Gives, Arrives, step_gives, written_sizes}
 use Rattle.system.proofs.Told.{IsHeard, heard_long, heard_own, heard_other, heard_desc}
 use Rattle.system.proofs.Counted.{CountsStep, turned_counted}
 use Rattle.system.proofs.Acts.{left_by, own_end, sent_lines, taken_lines}
@@ -47,13 +50,17 @@ pub record KeepsLines (held : Held) (left : Lines) : Type 0 where
   pub running : length left.running ≡ length held.lines.running
   pub channels : length left.channels ≡ length held.lines.channels
   pub consoles : left.consoles ≡ held.lines.consoles
+  pub maps : left.maps ≡ held.lines.maps
   pub taken : AreTaken held.wiring left.channels
 
 same_lines : (held : Held) (left : Lines) → IsSystem held → left ≡ held.lines → KeepsLines held left
-same_lines held left kept e = subst (λ (ls : Lines). KeepsLines held ls) (sym e) (record { wires = refl; running = refl; channels = refl; consoles = refl; taken = kept.taken })
+same_lines held left kept e = subst (λ (ls : Lines). KeepsLines held ls) (sym e) (record { wires = refl; running = refl; channels = refl; consoles = refl; maps = refl; taken = kept.taken })
+
+noted_lines : (held : Held) (left : Lines) (last : Copy) → IsSystem held → left ≡ record held.lines { last = last } → KeepsLines held left
+noted_lines held left last kept e = subst (λ (ls : Lines). KeepsLines held ls) (sym e) (record { wires = refl; running = refl; channels = refl; consoles = refl; maps = refl; taken = kept.taken })
 
 marked_keeps : (held : Held) (left : Lines) → IsSystem held → left ≡ marked_lines held.lines held.lines.who false → KeepsLines held left
-marked_keeps held left kept e = subst (λ (ls : Lines). KeepsLines held ls) (sym e) (record { wires = refl; running = length-set held.lines.running held.lines.who false; channels = refl; consoles = refl; taken = kept.taken })
+marked_keeps held left kept e = subst (λ (ls : Lines). KeepsLines held ls) (sym e) (record { wires = refl; running = length-set held.lines.running held.lines.who false; channels = refl; consoles = refl; maps = refl; taken = kept.taken })
 
 wire_is : (held : Held) (handle : ℕ) → IsSystem held → (it : IsOwn (network_of held) held.lines.who handle) → own_wire held.lines handle ≡ Channel it.place it.side
 wire_is held handle kept it = ap (λ (ws : List (List Wire)). own_wire (record held.lines { wires = ws }) handle) kept.wires ∙ it.wire
@@ -72,6 +79,7 @@ sent_keeps held handle bytes ref kept here sort far =
       running = refl;
       channels = ap (λ (w : Wire). length (sent_by held.lines.channels w bytes)) wire ∙ length-set held.lines.channels it.place _;
       consoles = refl;
+      maps = refl;
       taken = subst (λ (w : Wire). AreTaken held.wiring (sent_by held.lines.channels w bytes)) (sym wire)
           (sent_taken (network_of held) held.lines.channels it.place it.side bytes ref kept.joined below (some_is _ (Part ref) (sym it.far ∙ far)) kept.taken);
     }
@@ -96,6 +104,7 @@ taken_keeps held handle count kept here sort =
       running = refl;
       channels = ap (λ (w : Wire). length (taken_by held.lines.channels w count)) wire ∙ length-set held.lines.channels it.place _;
       consoles = refl;
+      maps = refl;
       taken = subst (λ (w : Wire). AreTaken held.wiring (taken_by held.lines.channels w count)) (sym wire)
           (still_taken (network_of held) held.lines.channels it.place it.side (after_receive it.side count (channel_at held.lines.channels it.place)) own.0 kept.joined below own.1
           (taken_beside it.side count (channel_at held.lines.channels it.place)) kept.taken);
@@ -125,6 +134,7 @@ emptied_keeps held left lines part kept keeps e =
       running = keeps.running;
       channels = all_cleared_long (wires_at lines.wires part) lines.channels ∙ keeps.channels;
       consoles = keeps.consoles;
+      maps = keeps.maps;
       taken = λ console there. let it = console_side held.wiring.links console in all_still_none (wires_at lines.wires part) lines.channels it.link it.side (keeps.taken console there);
     }
     )
@@ -132,10 +142,10 @@ emptied_keeps held left lines part kept keeps e =
 lent_marked : (held : Held) (lent : Lines) (managed : ℕ) (runs : Bool) → IsSystem held → lent ≡ held.lines → KeepsLines held (marked_lines lent managed runs)
 lent_marked held lent managed runs kept e =
     subst (λ (ls : Lines). KeepsLines held (marked_lines ls managed runs)) (sym e)
-    (record { wires = refl; running = length-set held.lines.running managed runs; channels = refl; consoles = refl; taken = kept.taken })
+    (record { wires = refl; running = length-set held.lines.running managed runs; channels = refl; consoles = refl; maps = refl; taken = kept.taken })
 
-lines_kept : (held : Held) (heard rung : List Member) (memory loaded : List (List ℕ)) (lines left : Lines) (act : Told) (counts new : List Counts) → IsSystem held → held.lines.who < length held.parts → Did Sends Takes act held.lines lines
-    → HasHandle (described_kinds (part_at held.parts held.lines.who).desc.ports) act → Settles held.wiring held.lines.who act heard rung memory loaded lines left counts new → KeepsLines held left
+lines_kept : (held : Held) (heard rung : List Member) (memory loaded : List (List ℕ)) (lines left : Lines) (act : Told) (counts new : List Counts) → IsSystem held → held.lines.who < length held.parts → Gives act held.lines lines
+    → HasHandle (described_kinds (part_at held.parts held.lines.who).desc.ports) act → Arrives held.wiring held.lines.who act heard rung memory loaded lines left counts new → KeepsLines held left
 lines_kept held heard rung memory loaded lines left (told.Sent on bytes) counts new kept here did handle s = printed_keeps held lines left on bytes.items kept here (sort_of held on kept here handle) did s.1
 lines_kept held heard rung memory loaded lines left (told.Took on count) counts new kept here did handle s =
     subst (λ (ls : Lines). KeepsLines held ls) (sym (s.1 ∙ did)) (taken_keeps held on count kept here (sort_of held on kept here handle))
@@ -149,33 +159,37 @@ lines_kept held heard rung memory loaded lines left (told.Stop on) counts new ke
 lines_kept held heard rung memory loaded lines left told.SelfRestart counts new kept here did handle s = emptied_keeps held left lines held.lines.who kept (same_lines held lines kept did) s.1
 lines_kept held heard rung memory loaded lines left told.SelfStop counts new kept here did handle s = marked_keeps held left kept (s.1 ∙ ap (λ (ls : Lines). marked_lines ls held.lines.who false) did)
 lines_kept held heard rung memory loaded lines left told.Faulted counts new kept here did handle s = marked_keeps held left kept (s.1 ∙ ap (λ (ls : Lines). marked_lines ls held.lines.who false) did)
+lines_kept held heard rung memory loaded lines left (told.CopyTo on total) counts new kept here did handle s = noted_lines held left lines.last kept (s.1 ∙ did)
+lines_kept held heard rung memory loaded lines left (told.CopyFrom on total) counts new kept here did handle s = noted_lines held left lines.last kept (s.1 ∙ did)
 lines_kept held heard rung memory loaded lines left _ counts new kept here did handle s = same_lines held left kept (s.1 ∙ did)
 
 -- ---- consoles
 
-pub printed_so : (held : Held) (heard rung : List Member) (memory loaded : List (List ℕ)) (lines left : Lines) (act : Told) (counts new : List Counts) → Settles held.wiring held.lines.who act heard rung memory loaded lines left counts new
-    → new ≡ printed_by (network_of held) held.lines.who (act_of act) counts
-printed_so held heard rung memory loaded lines left (told.Sent on bytes) counts new s = s.2
-printed_so held heard rung memory loaded lines left (told.Rang on) counts new s = s.2
-printed_so held heard rung memory loaded lines left (told.Start on entry load) counts new s = s.2
-printed_so held heard rung memory loaded lines left (told.Restart on) counts new s = s.2
-printed_so held heard rung memory loaded lines left (told.Stop on) counts new s = s.2
-printed_so held heard rung memory loaded lines left told.SelfRestart counts new s = s.2
-printed_so held heard rung memory loaded lines left told.SelfStop counts new s = s.2
-printed_so held heard rung memory loaded lines left told.Faulted counts new s = s.2
-printed_so held heard rung memory loaded lines left _ counts new s = s.2
+pub printed_so : (held : Held) (heard rung : List Member) (memory loaded : List (List ℕ)) (lines left : Lines) (act : Told) (counts new : List Counts) → Arrives held.wiring held.lines.who act heard rung memory loaded lines left counts new
+    → (pieces : List Piece) → new ≡ printed_by (network_of held) held.lines.who (act_of pieces act) counts
+printed_so held heard rung memory loaded lines left (told.Sent on bytes) counts new s pieces = s.2
+printed_so held heard rung memory loaded lines left (told.Rang on) counts new s pieces = s.2
+printed_so held heard rung memory loaded lines left (told.Start on entry load) counts new s pieces = s.2
+printed_so held heard rung memory loaded lines left (told.Restart on) counts new s pieces = s.2
+printed_so held heard rung memory loaded lines left (told.Stop on) counts new s pieces = s.2
+printed_so held heard rung memory loaded lines left (told.CopyTo on total) counts new s pieces = s.2
+printed_so held heard rung memory loaded lines left told.SelfRestart counts new s pieces = s.2
+printed_so held heard rung memory loaded lines left told.SelfStop counts new s pieces = s.2
+printed_so held heard rung memory loaded lines left told.Faulted counts new s pieces = s.2
+printed_so held heard rung memory loaded lines left _ counts new s pieces = s.2
 
 printed_long : (far : Option LinkEnd) (count : ℕ) (counts : List Counts) → length (count_printed far count counts) ≡ length counts
 printed_long None count counts = refl
 printed_long (Some (Part ref)) count counts = refl
 printed_long (Some (Console console)) count counts = length-set counts console _
 
-counts_long : (held : Held) (heard rung : List Member) (memory loaded : List (List ℕ)) (lines left : Lines) (act : Told) (counts new : List Counts) → Settles held.wiring held.lines.who act heard rung memory loaded lines left counts new → length new ≡ length counts
+counts_long : (held : Held) (heard rung : List Member) (memory loaded : List (List ℕ)) (lines left : Lines) (act : Told) (counts new : List Counts) → Arrives held.wiring held.lines.who act heard rung memory loaded lines left counts new → length new ≡ length counts
 counts_long held heard rung memory loaded lines left (told.Sent on bytes) counts new s = ap length s.2 ∙ printed_long (far_of (network_of held) held.lines.who on) (length bytes.items) counts
 counts_long held heard rung memory loaded lines left (told.Rang on) counts new s = ap length s.2
 counts_long held heard rung memory loaded lines left (told.Start on entry load) counts new s = ap length s.2
 counts_long held heard rung memory loaded lines left (told.Restart on) counts new s = ap length s.2
 counts_long held heard rung memory loaded lines left (told.Stop on) counts new s = ap length s.2
+counts_long held heard rung memory loaded lines left (told.CopyTo on total) counts new s = ap length s.2
 counts_long held heard rung memory loaded lines left told.SelfRestart counts new s = ap length s.2
 counts_long held heard rung memory loaded lines left told.SelfStop counts new s = ap length s.2
 counts_long held heard rung memory loaded lines left told.Faulted counts new s = ap length s.2
@@ -211,7 +225,7 @@ one_changed heard rung managed own e desc steps = record {
         subst (λ (n : ℕ). n < length heard → (part_at (slice_set heard managed own) n).inner.steps ≡ (part_at heard n).inner.steps) (sym (eqb-true part managed f))
         (λ here. ap (λ (p : Member). p.inner.steps) (get_or-set_same heard managed own no_part here) ∙ steps) there
 
-descs_kept : (held : Held) (heard rung : List Member) (memory loaded : List (List ℕ)) (lines left : Lines) (act : Told) (counts new : List Counts) → Settles held.wiring held.lines.who act heard rung memory loaded lines left counts new → KeepsDescs heard rung
+descs_kept : (held : Held) (heard rung : List Member) (memory loaded : List (List ℕ)) (lines left : Lines) (act : Told) (counts new : List Counts) → Arrives held.wiring held.lines.who act heard rung memory loaded lines left counts new → KeepsDescs heard rung
 descs_kept held heard rung memory loaded lines left (told.Sent on bytes) counts new s = same_descs heard rung s.0
 descs_kept held heard rung memory loaded lines left (told.Rang on) counts new s =
     let rings = s.0 in
@@ -223,19 +237,23 @@ descs_kept held heard rung memory loaded lines left (told.Rang on) counts new s 
 descs_kept held heard rung memory loaded lines left (told.Start on entry load) counts new s = let b = s.0 in one_changed heard rung (managed_by (own_wire lines on)) (part_at rung (managed_by (own_wire lines on))) b.parts b.desc b.steps
 descs_kept held heard rung memory loaded lines left (told.Restart on) counts new s = let b = s.0 in one_changed heard rung (managed_by (own_wire lines on)) (part_at rung (managed_by (own_wire lines on))) b.parts b.desc b.steps
 descs_kept held heard rung memory loaded lines left (told.Stop on) counts new s = one_changed heard rung (managed_by (own_wire lines on)) (stopped_part (part_at heard (managed_by (own_wire lines on)))) s.0 refl refl
+descs_kept held heard rung memory loaded lines left (told.CopyTo on total) counts new s =
+    one_changed heard rung (managed_by (own_wire lines on)) (copied_part lines.last.entries (part_at heard (managed_by (own_wire lines on)))) s.0 refl refl
 descs_kept held heard rung memory loaded lines left told.SelfRestart counts new s = same_descs heard rung s.0
 descs_kept held heard rung memory loaded lines left told.SelfStop counts new s = same_descs heard rung s.0
 descs_kept held heard rung memory loaded lines left told.Faulted counts new s = same_descs heard rung s.0
 descs_kept held heard rung memory loaded lines left _ counts new s = same_descs heard rung s.0
 
 -- no extent's size changes
-sizes_kept : (held : Held) (heard rung : List Member) (memory loaded : List (List ℕ)) (lines left : Lines) (act : Told) (counts new : List Counts) → Settles held.wiring held.lines.who act heard rung memory loaded lines left counts new
+sizes_kept : (held : Held) (heard rung : List Member) (memory loaded : List (List ℕ)) (lines left : Lines) (act : Told) (counts new : List Counts) → Arrives held.wiring held.lines.who act heard rung memory loaded lines left counts new
     → sizes_of loaded ≡ sizes_of memory
 sizes_kept held heard rung memory loaded lines left (told.Sent on bytes) counts new s = ap sizes_of s.3
 sizes_kept held heard rung memory loaded lines left (told.Rang on) counts new s = ap sizes_of s.3
 sizes_kept held heard rung memory loaded lines left (told.Start on entry load) counts new s = let b = s.0 in b.sizes
 sizes_kept held heard rung memory loaded lines left (told.Restart on) counts new s = let b = s.0 in b.sizes
 sizes_kept held heard rung memory loaded lines left (told.Stop on) counts new s = ap sizes_of s.3
+sizes_kept held heard rung memory loaded lines left (told.CopyTo on total) counts new s =
+    ap sizes_of s.3 ∙ written_sizes (told_by lines on) (part_at heard held.lines.who).desc.regions lines.last.entries memory
 sizes_kept held heard rung memory loaded lines left told.SelfRestart counts new s = ap sizes_of s.3
 sizes_kept held heard rung memory loaded lines left told.SelfStop counts new s = ap sizes_of s.3
 sizes_kept held heard rung memory loaded lines left told.Faulted counts new s = ap sizes_of s.3
@@ -243,9 +261,9 @@ sizes_kept held heard rung memory loaded lines left _ counts new s = ap sizes_of
 
 -- one of them counts the step, if it is counted
 pub counts_step : (held : Held) (stepped heard rung : List Member) (memory loaded : List (List ℕ)) (lines left : Lines) (core : ℕ) (act : Told) (ranges : List Wrote) (counts new : List Counts)
-    → (h : IsHeard held stepped heard memory lines core act ranges) → Settles held.wiring held.lines.who act heard rung memory loaded h.is.lent left counts new → ((n : ℕ) → steps_after (act_of act) n ≡ n + 1)
+    → (h : IsHeard held stepped heard memory lines core act ranges) → Arrives held.wiring held.lines.who act heard rung memory loaded h.is.lent left counts new
     → CountsStep held.lines.who held.parts rung
-counts_step held stepped heard rung memory loaded lines left core act ranges counts new h s more =
+counts_step held stepped heard rung memory loaded lines left core act ranges counts new h s =
     let who : ℕ = held.lines.who in
     let keeps = descs_kept held heard rung memory loaded h.is.lent left act counts new s in
     let long = heard_long held stepped heard memory lines core act ranges h in
@@ -253,7 +271,7 @@ counts_step held stepped heard rung memory loaded lines left core act ranges cou
     record {
       count = keeps.count ∙ long;
       own = keeps.steps who (omega (arith, here, long))
-          ∙ (ap (λ (p : Member). p.inner.steps) (heard_own held stepped heard memory lines core act ranges h) ∙ (h.is.step.counted ∙ more (part_at held.parts who).inner.steps));
+          ∙ (ap (λ (p : Member). p.inner.steps) (heard_own held stepped heard memory lines core act ranges h) ∙ h.is.step.counted);
       others = λ part there ne. keeps.steps part (omega (arith, there, long)) ∙ ap (λ (p : Member). p.inner.steps) (heard_other held stepped heard memory lines core act ranges part h there (not_same part ne (part == who) refl));
     }
   where
@@ -265,7 +283,7 @@ counts_step held stepped heard rung memory loaded lines left core act ranges cou
 
 -- the descriptions stay
 pub descs_stay : (held : Held) (stepped heard rung : List Member) (memory loaded : List (List ℕ)) (lines left : Lines) (core : ℕ) (act : Told) (ranges : List Wrote) (counts new : List Counts)
-    → (h : IsHeard held stepped heard memory lines core act ranges) → Settles held.wiring held.lines.who act heard rung memory loaded h.is.lent left counts new → descs_of rung ≡ descs_of held.parts
+    → (h : IsHeard held stepped heard memory lines core act ranges) → Arrives held.wiring held.lines.who act heard rung memory loaded h.is.lent left counts new → descs_of rung ≡ descs_of held.parts
 descs_stay held stepped heard rung memory loaded lines left core act ranges counts new h s =
     let keeps = descs_kept held heard rung memory loaded h.is.lent left act counts new s in
     let long = heard_long held stepped heard memory lines core act ranges h in
@@ -279,14 +297,14 @@ descs_stay held stepped heard rung memory loaded lines left core act ranges coun
     ∙ (keeps.each part (omega (arith, within, long))
     ∙ (heard_desc held stepped heard memory lines core act ranges part h within ∙ sym (get_or-map (λ (p : Member). p.desc) held.parts part no_part no_desc within))))
 
-pub turn_kept : (held : Held) (stepped heard rung : List Member) (memory loaded : List (List ℕ)) (lines left : Lines) (core : ℕ) (act : Told) (ranges : List Wrote) (new : List Counts) (unbuilt : Option ℕ)
-    → (h : IsHeard held stepped heard memory lines core act ranges) → Settles held.wiring held.lines.who act heard rung memory loaded h.is.lent left held.counts new → ((n : ℕ) → steps_after (act_of act) n ≡ n + 1)
+pub turn_kept : (held : Held) (stepped heard rung : List Member) (memory loaded : List (List ℕ)) (lines left : Lines) (core : ℕ) (act : Told) (ranges : List Wrote) (new : List Counts)
+    → (h : IsHeard held stepped heard memory lines core act ranges) → Arrives held.wiring held.lines.who act heard rung memory loaded h.is.lent left held.counts new
     → (part_at held.parts held.lines.who).inner.steps < most_steps → ((handle : ℕ) → HasConsole (length held.counts) (far_of (network_of held) held.lines.who handle))
-    → IsSystem (left_by held rung loaded left new unbuilt)
-turn_kept held stepped heard rung memory loaded lines left core act ranges new unbuilt h s more few has =
+    → IsSystem (left_by held rung loaded left new)
+turn_kept held stepped heard rung memory loaded lines left core act ranges new h s few has =
     let kept = h.is.kept in
     let descs = descs_stay held stepped heard rung memory loaded lines left core act ranges held.counts new h s in
-    let board = lines_kept held heard rung memory loaded h.is.lent left act held.counts new kept h.is.who h.is.step.did h.is.step.handle s in
+    let board = lines_kept held heard rung memory loaded h.is.lent left act held.counts new kept h.is.who (step_gives held.parts stepped held.memory memory held.lines h.is.lent core act ranges h.is.step) h.is.step.handle s in
     let keeps = descs_kept held heard rung memory loaded h.is.lent left act held.counts new s in
     let long = heard_long held stepped heard memory lines core act ranges h in
     let count = keeps.count in
@@ -295,6 +313,7 @@ turn_kept held stepped heard rung memory loaded lines left core act ranges new u
       wires = board.wires ∙ (kept.wires ∙ ap (λ (l : List Desc). all_wires held.wiring 0 l) (sym descs));
       running = let r = board.running in let old = kept.running in omega (arith, r, old, count, long);
       channels = board.channels ∙ kept.channels;
+      maps = board.maps ∙ (kept.maps ∙ ap (map regions_of) (sym descs));
       consoles = board.consoles ∙ kept.consoles;
       counts = counts_long held heard rung memory loaded h.is.lent left act held.counts new s ∙ kept.counts;
       placed = λ part there.
@@ -303,5 +322,5 @@ turn_kept held stepped heard rung memory loaded lines left core act ranges new u
           (all_still_placed held.memory loaded (part_at held.parts part).desc.regions (sizes_kept held heard rung memory loaded h.is.lent left act held.counts new s ∙ h.is.step.sizes) (kept.placed part within));
       taken = board.taken;
       counted = turned_counted (network_of held) held.lines.who act held.parts rung held.lines left held.counts new kept.counted h.is.who few
-          (counts_step held stepped heard rung memory loaded lines left core act ranges held.counts new h s more) has h.is.step.bytes (printed_so held heard rung memory loaded h.is.lent left act held.counts new s);
+          (counts_step held stepped heard rung memory loaded lines left core act ranges held.counts new h s) has h.is.step.bytes (printed_so held heard rung memory loaded h.is.lent left act held.counts new s []);
     }

@@ -1,4 +1,5 @@
 pub mod Handles
+pub mod Lent
 pub mod Seen
 pub mod Walks
 pub mod Cleared
@@ -8,6 +9,8 @@ pub mod Far
 pub mod Fresh
 pub mod Loaded
 pub mod Opened
+pub mod Fed
+pub mod Given
 pub mod Delivered
 pub mod Entered
 pub mod Shown
@@ -22,6 +25,9 @@ pub mod Managers
 pub mod Commanded
 pub mod Logged
 pub mod Begun
+pub mod Copies
+pub mod Telling
+pub mod Parted
 pub mod Settled
 pub mod Kept
 pub mod Turned

@@ -92,7 +92,7 @@ alone descs wiring (region ∷ regions) extent h e = by_here (region.private && 
         subst (λ (n : ℕ). count_by (names_extent n) descs ≡ 1) (eqb-true region.extent extent here.1) (eqb-true (count_by (names_extent region.extent) descs) 1 private)
     by_here false b rest = rest (sym (ap (λ (p : Bool). p || is_private_extent regions extent) b) ∙ e)
 
-private_names : (regions : List Region) (extent : ℕ) → is_private_extent regions extent ≡ true → list_any (λ (region : Region). region.extent == extent) regions ≡ true
+pub private_names : (regions : List Region) (extent : ℕ) → is_private_extent regions extent ≡ true → list_any (λ (region : Region). region.extent == extent) regions ≡ true
 private_names [] extent e = e
 private_names (region ∷ regions) extent e = by_here (region.private && region.extent == extent) refl (private_names regions extent)
   where

@@ -1,5 +1,5 @@
 -- Machines after deliveries, and after any log.
-use Rattle.std.proofs.Common.{◌≡◌, ℕ, ◌<◌, ◌==◌, Bool, true, false, if◌then◌else◌, List, ◌∷◌, length, map, Option, refl, sym, ap, subst, ◌∙◌, arith}
+use Rattle.std.proofs.Common.{◌≡◌, ℕ, ◌<◌, ◌==◌, Bool, true, false, if◌then◌else◌, List, ◌∷◌, length, map, refl, sym, ap, subst, ◌∙◌, arith}
 use Rattle.std.proofs.lemmas.Bool.{eqb-true, eqb-false}
 use Rattle.core_step.specs.declared.answer.Wrote.{Wrote}
 use Rattle.machine_desc.specs.declared.act.Act.{Act as Told}
@@ -40,18 +40,18 @@ one_more desc part delivery rest machine = by_part (delivery.part == part)
 
 -- ---- all machines after a log
 
-pub logged_machines : (held : Held) (stepped heard rung : List Member) (memory loaded : List (List ℕ)) (lines left : Lines) (core : ℕ) (act : Told) (ranges : List Wrote) (counts : List Counts) (unbuilt : Option ℕ) (log : List Entry)
+pub logged_machines : (held : Held) (stepped heard rung : List Member) (memory loaded : List (List ℕ)) (lines left : Lines) (core : ℕ) (act : Told) (ranges : List Wrote) (counts : List Counts) (log : List Entry)
     → IsHeard held stepped heard memory lines core act ranges → length rung ≡ length held.parts
     → machine_by (part_at rung held.lines.who) left loaded held.lines.who
     ≡ after_changes (desc_at (network_of held) held.lines.who) (changes_of held.lines.who log) (machine_by (part_at heard held.lines.who) lines memory held.lines.who)
     → ((part : ℕ) → part < length held.parts → (part ≡ held.lines.who → ⊥)
     → machine_by (part_at rung part) left loaded part ≡ after_changes (desc_at (network_of held) part) (changes_of part log) (machine_by (part_at heard part) held.lines memory part))
-    → machines_of (left_by held rung loaded left counts unbuilt) ≡ after_log (network_of held) log (after_shown (network_of held) (machines_of held) held.lines.who core)
-logged_machines held stepped heard rung memory loaded lines left core act ranges counts unbuilt log h long own_is others =
+    → machines_of (left_by held rung loaded left counts) ≡ after_log (network_of held) log (after_shown (network_of held) (machines_of held) held.lines.who core)
+logged_machines held stepped heard rung memory loaded lines left core act ranges counts log h long own_is others =
     let network : Network = network_of held in
     let machines : List Machine = after_shown network (machines_of held) held.lines.who core in
     let shown_long = shown_length held held.lines.who core in
-    all_machines (left_by held rung loaded left counts unbuilt) network log machines (omega (arith, long, shown_long))
+    all_machines (left_by held rung loaded left counts) network log machines (omega (arith, long, shown_long))
     (λ part there. by_place part (omega (arith, there, shown_long)) (part == held.lines.who) refl ∙ sym (follows_changes network part log machines there).machine)
   where
     by_place : (part : ℕ) → part < length held.parts → (b : Bool) → (part == held.lines.who) ≡ b

@@ -242,11 +242,11 @@ unmanaged held own memory managed part runs kept here e =
     (λ k there q. let it = wire_named network part k managed kept.joined (omega (arith, here, long)) there q in let both : None ≡ Some it.other = sym e ∙ it.is in absurd cc)))
 
 -- A partition doesn't run on, and its manager, if there is one, is told.
-pub ended_machines : (held : Held) (stepped heard : List Part) (memory : List (List ℕ)) (core : ℕ) (act : Told) (ranges : List Wrote) (counts : List Counts) (unbuilt : Option ℕ)
+pub ended_machines : (held : Held) (stepped heard : List Part) (memory : List (List ℕ)) (core : ℕ) (act : Told) (ranges : List Wrote) (counts : List Counts)
     → IsHeard held stepped heard memory held.lines core act ranges → length held.lines.running ≡ length held.parts
-    → machines_of (left_by held heard memory (marked_lines held.lines held.lines.who false) counts unbuilt)
+    → machines_of (left_by held heard memory (marked_lines held.lines held.lines.who false) counts)
     ≡ after_log (network_of held) (map delivered (tell_manager (manager_of (network_of held) held.lines.who))) (after_shown (network_of held) (machines_of held) held.lines.who core)
-ended_machines held stepped heard memory core act ranges counts unbuilt h long = by_manager (manager_of (network_of held) held.lines.who) refl
+ended_machines held stepped heard memory core act ranges counts h long = by_manager (manager_of (network_of held) held.lines.who) refl
   where
     who : ℕ
     who = held.lines.who
@@ -258,13 +258,13 @@ ended_machines held stepped heard memory core act ranges counts unbuilt h long =
     below = let there = h.is.who in omega (arith, there, long)
 
     by_manager : (m : Option PortRef) → manager_of (network_of held) who ≡ m
-        → machines_of (left_by held heard memory left counts unbuilt)
+        → machines_of (left_by held heard memory left counts)
         ≡ after_log (network_of held) (map delivered (tell_manager (manager_of (network_of held) who))) (after_shown (network_of held) (machines_of held) who core)
     by_manager None e =
-        none_machines held stepped heard memory held.lines left core act ranges counts unbuilt h (unmanaged held (part_at heard who) memory who who false h.is.kept h.is.who e)
+        none_machines held stepped heard memory held.lines left core act ranges counts h (unmanaged held (part_at heard who) memory who who false h.is.kept h.is.who e)
         (λ part there ne. unmanaged held (part_at heard part) memory who part false h.is.kept there e)
         ∙ ap (λ (m : Option PortRef). after_log (network_of held) (map delivered (tell_manager m)) (after_shown (network_of held) (machines_of held) who core)) (sym e)
     by_manager (Some ref) e =
-        event_machines held stepped heard memory held.lines left core act ranges counts unbuilt ref.part (Tells ref.handle false) (λ (l : List End). told_on l ref.handle false) h (is_told ref.handle false)
+        event_machines held stepped heard memory held.lines left core act ranges counts ref.part (Tells ref.handle false) (λ (l : List End). told_on l ref.handle false) h (is_told ref.handle false)
         (told_machine held (part_at heard who) memory who who false ref h.is.kept below h.is.who e) (λ part there ne. told_machine held (part_at heard part) memory who part false ref h.is.kept below there e)
         ∙ ap (λ (m : Option PortRef). after_log (network_of held) (map delivered (tell_manager m)) (after_shown (network_of held) (machines_of held) who core)) (sym e)

@@ -1,5 +1,5 @@
 -- A system before the first turn.
-use Rattle.std.proofs.Common.{◌≡◌, ℕ, zero, suc, ◌<◌, List, [], ◌∷◌, length, map, replicate, slice_index_or, None, true, refl, sym, ap, subst, ◌∙◌, arith}
+use Rattle.std.proofs.Common.{◌≡◌, ℕ, zero, suc, ◌<◌, List, [], ◌∷◌, length, map, replicate, slice_index_or, true, refl, sym, ap, subst, ◌∙◌, arith}
 use Rattle.std.specs.List.{list_all}
 use Rattle.std.proofs.lemmas.List.{length-map, length-replicate, get_or-map}
 use Rattle.std.proofs.lemmas.List.FromFn.{get_or-map-range_with_len, length-map-range_with_len}
@@ -19,7 +19,7 @@ use Rattle.partition.specs.Lending.{Part, machine_of}
 use Rattle.network.specs.Network.{Network, no_desc}
 use Rattle.network.specs.World.{Counts, no_counts, machine_at, opening_world}
 use Rattle.system.specs.Board.{Lines, ends_of, wires_at}
-use Rattle.system.specs.Wired.{console_side, begins_running, opening_lines}
+use Rattle.system.specs.Wired.{console_side, begins_running, opening_lines, regions_of}
 use Rattle.system.specs.System.{Held, Snapshot, fresh_part, no_part, part_at, descs_of, machine_in, machines_of, snapshot_of, IsSystem, AreLoaded}
 use Rattle.system.proofs.Fresh.{none_wait, open_fresh}
 use Rattle.system.proofs.Tied.{joined_parts}
@@ -75,7 +75,6 @@ opening descs wiring memory = record {
   lines = opening_lines descs wiring;
   wiring = wiring;
   counts = replicate (length wiring.consoles) no_counts;
-  unbuilt = None;
 }
 
 machine_is : (desc : Desc) (ends : List End) (memory : List (List ℕ)) → ends ≡ map fresh_end desc.ports → own_of (extents_of desc.regions) memory ≡ fresh_memory desc
@@ -113,22 +112,19 @@ pub opens : (descs : List Desc) (wiring : Wiring) (memory : List (List ℕ)) →
       lines = opening_lines descs wiring;
       wiring = wiring;
       counts = replicate (length wiring.consoles) no_counts;
-      unbuilt = None;
-    }) ≡ record { network = record { descs = descs; wiring = wiring }; world = opening_world (record { descs = descs; wiring = wiring }); unbuilt = None }
+    }) ≡ record { network = record { descs = descs; wiring = wiring }; world = opening_world (record { descs = descs; wiring = wiring }) }
 unfolding opening_world
 opens descs wiring memory joined loaded =
     ap (λ (l : List Desc).
     let it : Snapshot = record {
       network = record { descs = l; wiring = wiring };
       world = record { machines = machines_of (opening descs wiring memory); consoles = replicate (length wiring.consoles) no_counts };
-      unbuilt = None;
     } in
     it) (descs_back descs)
     ∙ ap (λ (l : List Machine).
     let it : Snapshot = record {
       network = record { descs = descs; wiring = wiring };
       world = record { machines = l; consoles = replicate (length wiring.consoles) no_counts };
-      unbuilt = None;
     } in
     it) (machines_open descs wiring memory joined loaded)
 
@@ -144,7 +140,6 @@ pub opens_kept : (descs : List Desc) (wiring : Wiring) (memory : List (List ℕ)
       lines = opening_lines descs wiring;
       wiring = wiring;
       counts = replicate (length wiring.consoles) no_counts;
-      unbuilt = None;
     })
 unfolding opening_lines
 opens_kept descs wiring memory joined loaded =
@@ -155,6 +150,7 @@ opens_kept descs wiring memory joined loaded =
       running = length-map descs begins_running ∙ sym parts;
       channels = length-replicate (length wiring.links) empty_channel;
       consoles = refl;
+      maps = ap (map regions_of) (sym (descs_back descs));
       counts = length-replicate (length wiring.consoles) no_counts;
       placed = λ part there.
           let within : part < length descs = omega (arith, there, parts) in
@@ -170,9 +166,9 @@ joined_sound descs wiring joined = (joined_parts descs wiring joined).sound
 
 pub opens_from : (descs : List Desc) (wiring : Wiring) (parts : List Part) (memory : List (List ℕ)) (lines : Lines) (counts : List Counts) → AreJoined descs wiring → AreLoaded descs memory
     → parts ≡ map fresh_part descs → lines ≡ opening_lines descs wiring → counts ≡ replicate (length wiring.consoles) no_counts
-    → IsSystem (record { parts = parts; memory = memory; lines = lines; wiring = wiring; counts = counts; unbuilt = None })
+    → IsSystem (record { parts = parts; memory = memory; lines = lines; wiring = wiring; counts = counts })
 opens_from descs wiring parts memory lines counts joined loaded p l c =
-    subst (λ (ps : List Part). IsSystem (record { parts = ps; memory = memory; lines = lines; wiring = wiring; counts = counts; unbuilt = None })) (sym p)
-    (subst (λ (ls : Lines). IsSystem (record { parts = map fresh_part descs; memory = memory; lines = ls; wiring = wiring; counts = counts; unbuilt = None })) (sym l)
-    (subst (λ (cs : List Counts). IsSystem (record { parts = map fresh_part descs; memory = memory; lines = opening_lines descs wiring; wiring = wiring; counts = cs; unbuilt = None })) (sym c)
+    subst (λ (ps : List Part). IsSystem (record { parts = ps; memory = memory; lines = lines; wiring = wiring; counts = counts })) (sym p)
+    (subst (λ (ls : Lines). IsSystem (record { parts = map fresh_part descs; memory = memory; lines = ls; wiring = wiring; counts = counts })) (sym l)
+    (subst (λ (cs : List Counts). IsSystem (record { parts = map fresh_part descs; memory = memory; lines = opening_lines descs wiring; wiring = wiring; counts = cs })) (sym c)
     (opens_kept descs wiring memory joined loaded)))

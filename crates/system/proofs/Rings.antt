@@ -1,5 +1,5 @@
 -- What a ring brings each partition.
-use Rattle.std.proofs.Common.{◌≡◌, ℕ, zero, suc, ◌+◌, ◌<◌, ◌==◌, Bool, true, false, cond, if◌then◌else◌, List, [], ◌∷◌, ◌++◌, length, map, filter, slice_index_or, Option, refl, sym, ap, subst, ◌∙◌, arith, add-one, append-nil}
+use Rattle.std.proofs.Common.{◌≡◌, ℕ, zero, suc, ◌+◌, ◌<◌, ◌==◌, Bool, true, false, cond, if◌then◌else◌, List, [], ◌∷◌, ◌++◌, length, map, filter, slice_index_or, refl, sym, ap, subst, ◌∙◌, arith, add-one, append-nil}
 use Rattle.std.specs.List.{range_with_len}
 use Rattle.std.proofs.lemmas.Bool.{eqb-true, eq-eqb}
 use Rattle.std.proofs.lemmas.List.{length-map, map-append}
@@ -22,7 +22,8 @@ use Rattle.system.specs.Board.{Lines}
 use Rattle.system.specs.System.{Held, part_at, descs_of, network_of, machine_by, machines_of}
 use Rattle.system.specs.Turning.{rung_if, rung_upto, Rings}
 use Rattle.system.proofs.Rung.{keeps_desc}
-use Rattle.system.proofs.Shown.{after_shown, desc_there}
+use Rattle.system.proofs.Shown.{after_shown}
+use Rattle.system.proofs.Fed.{desc_there}
 use Rattle.system.proofs.Told.{IsHeard, heard_long, heard_desc, own_told, other_told, all_machines, shown_length}
 use Rattle.system.proofs.Acts.{left_by}
 
@@ -134,18 +135,18 @@ rung_on bells sender number (suc count) desc part lines memory d =
 abbrev pub sender_of : Held → ℕ → PortRef
 sender_of held handle = ref_to held.lines.who handle
 
-pub rung_machines : (held : Held) (stepped heard rung : List Part) (memory : List (List ℕ)) (core : ℕ) (act : Told) (ranges : List Wrote) (counts : List Counts) (unbuilt : Option ℕ) (handle : ℕ)
+pub rung_machines : (held : Held) (stepped heard rung : List Part) (memory : List (List ℕ)) (core : ℕ) (act : Told) (ranges : List Wrote) (counts : List Counts) (handle : ℕ)
     → IsHeard held stepped heard memory held.lines core act ranges → Rings held.wiring.bells (sender_of held handle) heard rung
-    → machines_of (left_by held rung memory held.lines counts unbuilt)
+    → machines_of (left_by held rung memory held.lines counts)
     ≡ after_log (network_of held) (map delivered (map ring_at (receivers_of (network_of held) held.lines.who handle))) (after_shown (network_of held) (machines_of held) held.lines.who core)
-rung_machines held stepped heard rung memory core act ranges counts unbuilt handle h rings =
+rung_machines held stepped heard rung memory core act ranges counts handle h rings =
     let network : Network = network_of held in
     let machines : List Machine = after_shown network (machines_of held) held.lines.who core in
     let log : List Entry = map delivered (map ring_at (receivers_of network held.lines.who handle)) in
     let long = heard_long held stepped heard memory held.lines core act ranges h in
     let count = rings.count in
     let shown_long = shown_length held held.lines.who core in
-    all_machines (left_by held rung memory held.lines counts unbuilt) network log machines (omega (arith, count, long, shown_long)) (λ part there. one part (omega (arith, there, shown_long)))
+    all_machines (left_by held rung memory held.lines counts) network log machines (omega (arith, count, long, shown_long)) (λ part there. one part (omega (arith, there, shown_long)))
   where
     bells : List Bell
     bells = held.wiring.bells

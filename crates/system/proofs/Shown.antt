@@ -1,34 +1,37 @@
 -- Machines once one of them did a step and the others saw what it stored.
-use Rattle.std.proofs.Common.{◌≡◌, ℕ, zero, suc, ◌+◌, ◌<◌, ◌≤◌, ◌==◌, Bool, true, false, ◌&&◌, ◌||◌, if◌then◌else◌, List, [], ◌∷◌, ◌++◌, length, map, refl, sym, ap, subst, ◌∙◌, arith, length-set}
+use Rattle.std.proofs.Common.{◌≡◌, ℕ, ◌+◌, ◌<◌, ◌≤◌, ◌==◌, Bool, true, false, ◌&&◌, ◌||◌, if◌then◌else◌, List, [], ◌∷◌, ◌++◌, length, map, refl, sym, ap, subst, ◌∙◌, arith, length-set}
 use Rattle.std.specs.List.{list_any}
-use Rattle.std.proofs.lemmas.Bool.{or_left, or_right, or_parts, eqb-true, eqb-false, eq-eqb}
-use Rattle.std.proofs.lemmas.List.{length-map, get_or-map, get_or-set_same, get_or-set_other}
+use Rattle.std.proofs.lemmas.Bool.{or_left, or_right, eqb-true, eqb-false, eq-eqb}
+use Rattle.std.proofs.lemmas.List.{length-map, get_or-set_same, get_or-set_other}
 use Rattle.core_step.specs.declared.answer.Wrote.{Wrote}
 use Rattle.core_step.specs.Laws.{range_in}
 use Rattle.ground.specs.Extents.{extent_at}
-use Rattle.ground.specs.Own.{own_of, IsForeign, KeepsForeign}
+use Rattle.ground.specs.Own.{own_of, KeepsForeign}
 use Rattle.machine_desc.specs.declared.act.Act.{Act as Told}
 use Rattle.machine_desc.specs.declared.desc.Desc.{Desc}
 use Rattle.machine_desc.specs.declared.desc.Region.{Region}
 use Rattle.machine_desc.specs.Joined.{names_extent}
+use Rattle.copy_lists.specs.Pieces.{Piece}
 use Rattle.fresh_load.specs.Placed.{extents_of, is_private_extent}
 use Rattle.partition.specs.Port.{End}
 use Rattle.partition.specs.Act.{act_of, settled}
 use Rattle.partition.specs.Machine.{Machine, fresh}
+use Rattle.partition.specs.Asking.{Asked, asks}
 use Rattle.partition.specs.Step.{Stepped, step}
 use Rattle.partition.specs.Reached.{Steps}
-use Rattle.partition.specs.Lending.{Part, IsStepped, machine_of}
+use Rattle.partition.specs.Lending.{Part, IsStepped, machine_of, pieces_of}
 use Rattle.network.specs.Network.{Network, no_desc, desc_at}
 use Rattle.network.specs.Change.{Change, Moves, Shared, bytes_of, seen, changed, after_changes}
 use Rattle.network.specs.World.{Entry, entry_for, machine_at, after_entry, after_log, changes_of}
 use Rattle.network.specs.Effects.{shown_from, shown}
-use Rattle.network.specs.Turn.{feed_for, done_by}
+use Rattle.network.specs.Turn.{fed, feed_for, done_by}
 use Rattle.network.proofs.Logs.{follows_changes}
-use Rattle.system.specs.Board.{Lines, own_ends, ends_of, wires_at}
-use Rattle.system.specs.System.{Held, no_part, part_at, descs_of, network_of, machine_by, machine_in, machines_of, IsSystem}
+use Rattle.system.specs.Board.{Lines, fed_by, own_ends, ends_of, wires_at}
+use Rattle.system.specs.System.{Held, part_at, descs_of, network_of, machine_by, machine_in, machines_of, IsSystem}
 use Rattle.system.specs.Turning.{AfterStep, kept_part}
 use Rattle.system.proofs.Opened.{machine_there, machines_length}
 use Rattle.system.proofs.Loaded.{private_apart}
+use Rattle.system.proofs.Fed.{desc_there, fed_so, unnamed_foreign}
 
 -- ---- who sees it
 
@@ -86,15 +89,6 @@ shown_other part first stepping (desc ∷ descs) regions memory stored low high 
 
 -- ---- what it sees
 
-unnamed_foreign : (regions : List Region) (extent : ℕ) → list_any (λ (region : Region). region.extent == extent) regions ≡ false → IsForeign (extents_of regions) extent
-unnamed_foreign [] extent h place there q = absurd (omega arith)
-unnamed_foreign (region ∷ regions) extent h zero there q =
-    let two = or_parts (region.extent == extent) (list_any (λ (it : Region). it.extent == extent) regions) h in
-    eqb-false region.extent extent two.0 q
-unnamed_foreign (region ∷ regions) extent h (suc place) there q =
-    let two = or_parts (region.extent == extent) (list_any (λ (it : Region). it.extent == extent) regions) h in
-    unnamed_foreign regions extent two.1 place (omega (arith, there)) q
-
 bytes_are : (regions : List Region) (memory : List (List ℕ)) (extent : ℕ) (old : List ℕ) → (list_any (λ (region : Region). region.extent == extent) regions ≡ false → extent_at memory extent ≡ old)
     → bytes_of regions (own_of (extents_of regions) memory) extent old ≡ extent_at memory extent
 bytes_are [] memory extent old h = sym (h refl)
@@ -132,9 +126,6 @@ seen_is regions before after (own ∷ owns) foreign private =
 
 -- ---- machines
 
-pub desc_there : (held : Held) (part : ℕ) → part < length held.parts → desc_at (network_of held) part ≡ (part_at held.parts part).desc
-desc_there held part there = get_or-map (λ (p : Part). p.desc) held.parts part no_part no_desc there
-
 beside_is : (own : Part) (ends : List End) (regions : List Region) (before after memory : List (List ℕ)) (stored : List Wrote)
     → seen regions memory own.desc.regions (own_of (extents_of own.desc.regions) before) ≡ own_of (extents_of own.desc.regions) after
     → changed own.desc (Shared regions memory stored) (machine_of own ends before) ≡ machine_of (kept_part stored own) ends after
@@ -150,6 +141,10 @@ after_shown network machines part core =
     after_log network (shown network part (done_by network machines part core))
     (after_entry network (entry_for part (Moves (Steps core (feed_for network machines part core)))) machines)
 
+-- a step of a core, with what it copies out of another partition
+abbrev pub stepping : Held → ℕ → ℕ → Change
+stepping held part core = Moves (Steps core (feed_for (network_of held) (machines_of held) part core))
+
 -- the system before a step, its parts afterwards, and the board that shows the stepping one its ends as the act leaves them
 pub record IsStep (held : Held) (parts : List Part) (memory : List (List ℕ)) (lines : Lines) (core : ℕ) (act : Told) (ranges : List Wrote) : Type 0 where
   pub kept : IsSystem held
@@ -157,22 +152,38 @@ pub record IsStep (held : Held) (parts : List Part) (memory : List (List ℕ)) (
   -- the board as the step gave it back
   pub lent : Lines
   pub step : AfterStep held.parts parts held.memory memory held.lines lent core act ranges
-  pub shows : machine_of (part_at parts held.lines.who) (settled (act_of act) (own_ends lent)) memory ≡ machine_by (part_at parts held.lines.who) lines memory held.lines.who
+  pub shows : machine_of (part_at parts held.lines.who) (settled (act_of [] act) (own_ends lent)) memory ≡ machine_by (part_at parts held.lines.who) lines memory held.lines.who
 
-done_is : (held : Held) (part core : ℕ) → part < length held.parts → done_by (network_of held) (machines_of held) part core ≡ step (part_at held.parts part).desc (machine_in held part) core []
-done_is held part core there =
-    ap (λ (d : Desc). step d (machine_at (machines_of held) part) core []) (desc_there held part there)
-    ∙ ap (λ (m : Machine). step (part_at held.parts part).desc m core []) (machine_there held part (fresh no_desc) there)
+-- the step's pieces, if it copies into another partition
+abbrev pub pieces_by : Held → List (List ℕ) → Lines → List Piece
+pieces_by held memory lent = pieces_of (part_at held.parts held.lines.who).desc.regions memory lent.last
 
-pub stepped_so : (held : Held) (parts : List Part) (memory : List (List ℕ)) (lines : Lines) (core : ℕ) (act : Told) (ranges : List Wrote) → IsStep held parts memory lines core act ranges
-    → IsStepped (extents_of (part_at held.parts held.lines.who).desc.regions) (done_by (network_of held) (machines_of held) held.lines.who core) (machine_by (part_at parts held.lines.who) lines memory held.lines.who) act ranges
+-- what the board feeds to a step
+abbrev fed_in : Held → Asked → List ℕ
+fed_in held asked = fed_by held.lines held.memory asked.handle asked.ranges
+
+done_is : (held : Held) (core : ℕ) → IsSystem held → held.lines.who < length held.parts
+    → done_by (network_of held) (machines_of held) held.lines.who core
+    ≡ step (part_at held.parts held.lines.who).desc (machine_in held held.lines.who) core (fed_in held (asks (part_at held.parts held.lines.who).desc (machine_in held held.lines.who) core))
+done_is held core kept there =
+    let who : ℕ = held.lines.who in
+    let desc : Desc = (part_at held.parts who).desc in
+    ap (λ (d : Desc). step d (machine_at (machines_of held) who) core (fed (network_of held) (machines_of held) (asks d (machine_at (machines_of held) who) core))) (desc_there held who there)
+    ∙ (ap (λ (m : Machine). step desc m core (fed (network_of held) (machines_of held) (asks desc m core))) (machine_there held who (fresh no_desc) there)
+    ∙ ap (step desc (machine_in held who) core) (fed_so held (machine_in held who) core kept there))
+
+pub stepped_so : (held : Held) (parts : List Part) (memory : List (List ℕ)) (lines : Lines) (core : ℕ) (act : Told) (ranges : List Wrote)
+    → (is : IsStep held parts memory lines core act ranges)
+    → IsStepped (extents_of (part_at held.parts held.lines.who).desc.regions) (pieces_by held memory is.lent) (done_by (network_of held) (machines_of held) held.lines.who core) (machine_by (part_at parts held.lines.who) lines memory held.lines.who) act ranges
 stepped_so held parts memory lines core act ranges is =
     let who : ℕ = held.lines.who in
-    subst (λ (done : Stepped). IsStepped (extents_of (part_at held.parts who).desc.regions) done (machine_by (part_at parts who) lines memory who) act ranges) (sym (done_is held who core is.who))
+    subst (λ (done : Stepped). IsStepped (extents_of (part_at held.parts who).desc.regions) (pieces_by held memory is.lent) done (machine_by (part_at parts who) lines memory who) act ranges) (sym (done_is held core is.kept is.who))
     (
     subst
-    (λ (left : Machine). IsStepped (extents_of (part_at held.parts who).desc.regions) (step (part_at held.parts who).desc (machine_in held who) core []) left act ranges) is.shows
-    (is.step.stepped [])
+    (λ (left : Machine).
+    IsStepped (extents_of (part_at held.parts who).desc.regions) (pieces_by held memory is.lent)
+    (step (part_at held.parts who).desc (machine_in held who) core (fed_in held (asks (part_at held.parts who).desc (machine_in held who) core))) left act ranges) is.shows
+    is.step.stepped
     )
 
 shown_is : (held : Held) (parts : List Part) (memory : List (List ℕ)) (lines : Lines) (core : ℕ) (act : Told) (ranges : List Wrote) → IsStep held parts memory lines core act ranges
@@ -194,7 +205,7 @@ pub first_long : (held : Held) (part : ℕ) (change : Change) → length (after_
 first_long held part change = length-set (machines_of held) part _ ∙ machines_length held
 
 own_first : (held : Held) (part core : ℕ) → part < length held.parts
-    → machine_at (after_entry (network_of held) (entry_for part (Moves (Steps core []))) (machines_of held)) part ≡ (done_by (network_of held) (machines_of held) part core).after
+    → machine_at (after_entry (network_of held) (entry_for part (stepping held part core)) (machines_of held)) part ≡ (done_by (network_of held) (machines_of held) part core).after
 unfolding changed
 own_first held part core there = get_or-set_same (machines_of held) part _ (fresh no_desc) (let long = machines_length held in omega (arith, long, there))
 
@@ -205,9 +216,9 @@ own_shown held parts memory lines core act ranges is =
     let who : ℕ = held.lines.who in
     let network : Network = network_of held in
     let regions : List Region = (part_at held.parts who).desc.regions in
-    let first : List Machine = after_entry network (entry_for who (Moves (Steps core []))) (machines_of held) in
+    let first : List Machine = after_entry network (entry_for who (stepping held who core)) (machines_of held) in
     let log : List Entry = shown network who (done_by network (machines_of held) who core) in
-    let long = first_long held who (Moves (Steps core [])) in
+    let long = first_long held who (stepping held who core) in
     let below = is.who in
     let each = follows_changes network who log first (omega (arith, long, below)) in
     let none : changes_of who log ≡ [] = ap (changes_of who) (shown_is held parts memory lines core act ranges is) ∙ shown_own who 0 (descs_of held.parts) regions (own_of (extents_of regions) memory) ranges in
@@ -244,9 +255,9 @@ other_shown held parts memory lines core act ranges part is there ne =
     let left : List (List ℕ) = own_of (extents_of regions) memory in
     let own : Part = part_at held.parts part in
     let ends : List End = ends_of held.lines.channels held.lines.running (wires_at held.lines.wires part) in
-    let first : List Machine = after_entry network (entry_for who (Moves (Steps core []))) (machines_of held) in
+    let first : List Machine = after_entry network (entry_for who (stepping held who core)) (machines_of held) in
     let log : List Entry = shown network who (done_by network (machines_of held) who core) in
-    let long = first_long held who (Moves (Steps core [])) in
+    let long = first_long held who (stepping held who core) in
     let descs : length (descs_of held.parts) ≡ length held.parts = length-map held.parts (λ (p : Part). p.desc) in
     let each = follows_changes network part log first (omega (arith, long, there)) in
     let once : changes_of part log ≡ Shared regions left ranges ∷ [] =

@@ -25,7 +25,7 @@ use Rattle.network.specs.Network.{is_end, no_desc, ref_to}
 use Rattle.system.specs.declared.wire.ChannelEnd.{ChannelEnd}
 use Rattle.system.specs.declared.wire.Wire.{Wire}
 use Rattle.system.specs.Board.{no_wire, no_side, console_at, wires_at, is_tied, have_channel, AreWires, AreLines}
-use Rattle.system.specs.Wired.{side_from, channel_wire, console_side, wire_of, wires_from, all_wires, begins_running, opening_lines, HaveFewHandles}
+use Rattle.system.specs.Wired.{side_from, channel_wire, console_side, wire_of, wires_from, all_wires, begins_running, opening_lines, regions_of, HaveFewHandles}
 
 -- ---- what joined descriptions keep
 
@@ -287,6 +287,7 @@ opening_kept descs wiring joined =
     let same : length (replicate (length wiring.links) empty_channel) ≡ length wiring.links = length-replicate _ _ in
     record {
       running = length-map descs begins_running ∙ sym long;
+      maps = length-map descs regions_of ∙ sym long;
       each = λ part here.
           let there : part < length descs = omega (arith, long, here) in
           let wires = are_wires descs wiring part (slice_index_or descs part no_desc).ports parts.links (ports_joined descs wiring part parts.ports there) in

@@ -1,5 +1,5 @@
 -- The whole log of a step.
-use Rattle.std.proofs.Common.{◌≡◌, ℕ, ◌<◌, ◌==◌, Bool, true, false, if◌then◌else◌, List, [], ◌∷◌, length, slice_set, Option, refl, sym, ap, subst, ◌∙◌, arith, length-set}
+use Rattle.std.proofs.Common.{◌≡◌, ℕ, ◌<◌, ◌==◌, Bool, true, false, if◌then◌else◌, List, [], ◌∷◌, length, slice_set, refl, sym, ap, subst, ◌∙◌, arith, length-set}
 use Rattle.std.proofs.lemmas.Bool.{eqb-true, eqb-false, eq-eqb}
 use Rattle.std.proofs.lemmas.List.{get_or-set_other}
 use Rattle.core_step.specs.declared.answer.Wrote.{Wrote}
@@ -9,14 +9,12 @@ use Rattle.partition.specs.Lending.{Part}
 use Rattle.network.specs.Network.{Network, no_desc}
 use Rattle.network.specs.World.{Counts, Entry, entry_for, machine_at, after_entry, after_log}
 use Rattle.network.specs.Effects.{shown}
-use Rattle.network.specs.Change.{Moves}
 use Rattle.network.specs.Turn.{done_by}
-use Rattle.partition.specs.Reached.{Steps}
 use Rattle.system.specs.Board.{Lines}
 use Rattle.system.specs.System.{Held, no_part, part_at, network_of, machine_by, machine_in, machines_of}
 use Rattle.system.specs.Turning.{Hears, kept_part}
 use Rattle.system.proofs.Opened.{same_lists, machine_there, machines_length}
-use Rattle.system.proofs.Shown.{IsStep, after_shown, first_long, own_shown, other_shown}
+use Rattle.system.proofs.Shown.{IsStep, after_shown, stepping, first_long, own_shown, other_shown}
 
 pub log_length : (network : Network) (log : List Entry) (machines : List Machine) → length (after_log network log machines) ≡ length machines
 log_length network [] machines = refl
@@ -78,18 +76,18 @@ all_machines new network log machines long each =
 
 pub shown_length : (held : Held) (part core : ℕ) → length (after_shown (network_of held) (machines_of held) part core) ≡ length held.parts
 shown_length held part core =
-    log_length (network_of held) (shown (network_of held) part (done_by (network_of held) (machines_of held) part core)) (after_entry (network_of held) (entry_for part (Moves (Steps core []))) (machines_of held))
-    ∙ first_long held part (Moves (Steps core []))
+    log_length (network_of held) (shown (network_of held) part (done_by (network_of held) (machines_of held) part core)) (after_entry (network_of held) (entry_for part (stepping held part core)) (machines_of held))
+    ∙ first_long held part (stepping held part core)
 
 -- an act that brings nothing
-pub quiet_machines : (held : Held) (stepped heard : List Part) (memory : List (List ℕ)) (core : ℕ) (act : Told) (ranges : List Wrote) (counts : List Counts) (unbuilt : Option ℕ)
+pub quiet_machines : (held : Held) (stepped heard : List Part) (memory : List (List ℕ)) (core : ℕ) (act : Told) (ranges : List Wrote) (counts : List Counts)
     → IsHeard held stepped heard memory held.lines core act ranges
-    → machines_of (record { parts = heard; memory = memory; lines = held.lines; wiring = held.wiring; counts = counts; unbuilt = unbuilt })
+    → machines_of (record { parts = heard; memory = memory; lines = held.lines; wiring = held.wiring; counts = counts })
     ≡ after_log (network_of held) [] (after_shown (network_of held) (machines_of held) held.lines.who core)
-quiet_machines held stepped heard memory core act ranges counts unbuilt h =
+quiet_machines held stepped heard memory core act ranges counts h =
     let network : Network = network_of held in
     let who : ℕ = held.lines.who in
-    let new : Held = record { parts = heard; memory = memory; lines = held.lines; wiring = held.wiring; counts = counts; unbuilt = unbuilt } in
+    let new : Held = record { parts = heard; memory = memory; lines = held.lines; wiring = held.wiring; counts = counts } in
     let machines : List Machine = after_shown network (machines_of held) who core in
     let long = heard_long held stepped heard memory held.lines core act ranges h in
     let shown_long = shown_length held who core in

@@ -1,8 +1,8 @@
 -- A step of the system is the step of its network.
-use Rattle.std.proofs.Common.{◌≡◌, ℕ, ◌+◌, ◌<◌, ◌≤◌, ◌==◌, Bool, true, false, ◌&&◌, if◌then◌else◌, List, [], ◌∷◌, append-nil, length, length-set, map, slice_set, Option, Some, None, refl, sym, ap, subst, ◌∙◌, arith}
+use Rattle.std.proofs.Common.{◌≡◌, ℕ, ◌+◌, ◌<◌, ◌≤◌, ◌==◌, Bool, true, false, ◌&&◌, cond, if◌then◌else◌, List, [], ◌∷◌, append-nil, length, length-set, map, Some, refl, sym, ap, subst, ◌∙◌, arith}
 use Rattle.std.specs.List.{list_all}
 use Rattle.std.proofs.lemmas.Bool.{and_parts, eqb-true, eqb-false, ltb-true, ltb-false}
-use Rattle.std.proofs.lemmas.List.{length-map, set-get_or, get_or_past, get_or-set_other}
+use Rattle.std.proofs.lemmas.List.{length-map, get_or_past, get_or-set_other}
 use Rattle.std.proofs.lemmas.List.Concat.{flat_map-cons}
 use Rattle.std.specs.Prelude.{nat_lt}
 use Rattle.core_step.specs.declared.answer.Wrote.{Wrote}
@@ -15,59 +15,37 @@ use Rattle.machine_desc.specs.declared.wiring.Link.{Link}
 use Rattle.machine_desc.specs.declared.wiring.Wiring.{Wiring}
 use Rattle.machine_desc.specs.Joined.{is_end, are_ends_apart, is_link_joined, are_links_joined}
 use Rattle.partition.specs.Port.{kinds_of as described_kinds}
-use Rattle.trace_text.specs.Acts.{act_text}
-use Rattle.partition.specs.Act.{Act, act_of, steps_after}
-use Rattle.fresh_load.specs.Placed.{ArePlaced}
+use Rattle.trace_text.specs.Acts.{act_text, copy_to_line}
+use Rattle.copy_lists.specs.Pieces.{Piece, pieces_out}
+use Rattle.partition.specs.Act.{Act, HasTotal, act_of}
+use Rattle.fresh_load.specs.Placed.{ArePlaced, sizes_of}
 use Rattle.fresh_load.proofs.Places.{all_still_placed}
 use Rattle.partition.specs.Machine.{Machine, fresh, most_steps}
 use Rattle.partition.specs.Step.{Stepped}
 use Rattle.partition.proofs.Acting.{steps_so}
-use Rattle.partition.specs.Reached.{Steps}
-use Rattle.partition.specs.Lending.{Part as Member, Did, HasHandle}
+use Rattle.partition.specs.Lending.{Part as Member, HasHandle}
 use Rattle.network.specs.Network.{Network, no_desc, desc_at, ref_to, is_end as is_same_end, far_end}
-use Rattle.network.specs.Change.{Moves}
 use Rattle.network.specs.Report.{act_line, traced_line, act_lines}
-use Rattle.network.specs.World.{Counts, World, Line, Passage, line_of, machine_at, entry_for, delivered, after_entry, after_log}
+use Rattle.network.specs.World.{Counts, World, Line, line_of, machine_at, entry_for, delivered, after_entry, after_log}
 use Rattle.network.specs.Effects.{brought, shown, printed_by}
-use Rattle.network.specs.Turn.{done_by, log_of, after_step, after_act, ended, steps_in}
+use Rattle.network.specs.Turn.{done_by, feed_for, log_of, steps_in}
 use Rattle.network.proofs.Logs.{after_both}
-use Rattle.system.specs.Board.{Lines, kinds_of, wires_at, own_kinds, Sends, Takes}
+use Rattle.system.specs.Board.{Lines, kinds_of, wires_at, own_kinds}
 use Rattle.partition.specs.declared.kind.Kind.{Kind}
 use Rattle.system.specs.declared.wire.Wire.{Wire}
-use Rattle.system.specs.System.{Held, Snapshot, no_part, part_at, descs_of, network_of, machines_of, snapshot_of, IsSystem}
-use Rattle.system.specs.Turning.{AfterStep, Asks, Follows, HasConsole, Hears, Turns, kept_part}
+use Rattle.system.specs.System.{Held, Snapshot, no_part, part_at, descs_of, network_of, machine_in, machines_of, snapshot_of, IsSystem}
+use Rattle.system.specs.Turning.{AfterCopy, AfterStep, Asks, Follows, HasConsole, Hears, Turns, kept_part}
 use Rattle.system.proofs.Tied.{joined_parts, all_length}
 use Rattle.system.proofs.Counted.{CountsStep, small_counts}
 use Rattle.system.proofs.Opened.{machine_there, machines_length, fresh_steps}
-use Rattle.system.proofs.Shown.{IsStep, after_shown, stepped_so}
-use Rattle.system.proofs.Told.{IsHeard}
+use Rattle.partition.proofs.Ways.{copy_way}
+use Rattle.system.proofs.Given.{Gives, Arrives, arrives, step_gives, with_copy_sizes}
+use Rattle.system.proofs.Shown.{IsStep, after_shown, pieces_by, stepping, stepped_so}
+use Rattle.system.proofs.Told.{IsHeard, heard_desc}
 use Rattle.system.proofs.Acts.{left_by, kinds_are}
 use Rattle.system.proofs.Commanded.{settled_lines, lent_machine}
-use Rattle.system.proofs.Settled.{settled}
+use Rattle.system.proofs.Settled.{HasPieces, settled}
 use Rattle.system.proofs.Kept.{descs_stay, counts_step, printed_so, turn_kept}
-
--- what is built
-abbrev pub IsDone : Told → Type 0
-IsDone told.NotBuilt = ⊥
-IsDone _ = Unit {0}
-
-done_counts : (act : Told) → IsDone act → (n : ℕ) → steps_after (act_of act) n ≡ n + 1
-done_counts told.NotBuilt h n = absurd h
-done_counts _ h n = refl
-
-done_after : (network : Network) (part core : ℕ) (world : World) (done : Stepped) (act : Told) → IsDone act → after_act network part core world done (act_of act) ≡ after_step network part core world done
-done_after network part core world done told.NotBuilt h = absurd h
-done_after network part core world done _ h = refl
-
--- the passage of a step that is built
-passes : (held : Held) (stepped : List Member) (memory : List (List ℕ)) (lines : Lines) (core : ℕ) (act : Told) (ranges : List Wrote) → IsStep held stepped memory lines core act ranges → IsDone act
-    → steps_in (network_of held) held.lines.who core (snapshot_of held).world
-    ≡ after_step (network_of held) held.lines.who core (snapshot_of held).world (done_by (network_of held) (machines_of held) held.lines.who core)
-unfolding steps_in
-passes held stepped memory lines core act ranges is h =
-    let done : Stepped = done_by (network_of held) (machines_of held) held.lines.who core in
-    ap (after_act (network_of held) held.lines.who core (snapshot_of held).world done) (stepped_so held stepped memory lines core act ranges is).act
-    ∙ done_after (network_of held) held.lines.who core (snapshot_of held).world done act h
 
 -- a console at a far end is there
 end_has : (descs : List Desc) (wiring : Wiring) (end : LinkEnd) → is_end descs wiring end ≡ true → HasConsole (length wiring.consoles) (Some end)
@@ -142,78 +120,56 @@ is_step held stepped memory lent core act ranges kept here step = record {
   who = here;
   lent = lent;
   step = step;
-  shows = lent_machine held lent (part_at stepped held.lines.who) memory act kept here step.did step.handle;
+  shows = lent_machine held lent (part_at stepped held.lines.who) memory act kept here (step_gives held.parts stepped held.memory memory held.lines lent core act ranges step) step.handle;
 }
 
-pub turns_built : (held : Held) (stepped rung : List Member) (memory loaded : List (List ℕ)) (lent left : Lines) (core : ℕ) (act : Told) (ranges : List Wrote) (new : List Counts) (unbuilt : Option ℕ)
-    → IsSystem held → held.lines.who < length held.parts → AfterStep held.parts stepped held.memory memory held.lines lent core act ranges → IsDone act → unbuilt ≡ None
-    → (part_at held.parts held.lines.who).inner.steps < most_steps → Follows held.wiring held.lines.who act ranges stepped rung memory loaded lent left held.counts new
-    → Turns held (left_by held rung loaded left new unbuilt) core act
-unfolding is_step
-turns_built held stepped rung memory loaded lent left core act ranges new unbuilt kept here step d none few f =
+-- the step's own pieces are those of the list
+has_pieces : (held : Held) (stepped : List Member) (memory : List (List ℕ)) (lines : Lines) (core : ℕ) (act : Told) (ranges : List Wrote) → (is : IsStep held stepped memory lines core act ranges)
+    → HasPieces held memory is.lent (pieces_by held memory is.lent) act
+has_pieces held stepped memory lines core (told.CopyTo handle count) ranges is =
+    let desc : Desc = (part_at held.parts held.lines.who).desc in
+    let to : is.lent.last.to_managed ≡ true =
+    copy_way desc (machine_in held held.lines.who) core _ is.lent.last handle (pieces_by held memory is.lent) is.step.did.0 is.step.stepped.act in
+    ap (λ (b : Bool). cond b (pieces_out desc.regions memory is.lent.last.entries) []) to
+has_pieces held stepped memory lines core _ ranges is = tt
+
+pub turned : (held : Held) (stepped rung : List Member) (memory loaded : List (List ℕ)) (lent left : Lines) (core : ℕ) (act : Told) (ranges : List Wrote) (new : List Counts)
+    → IsSystem held → held.lines.who < length held.parts → (part_at held.parts held.lines.who).inner.steps < most_steps → AfterCopy held.parts stepped held.memory memory held.lines lent core act ranges
+    → Follows held.wiring held.lines.who act ranges stepped rung memory loaded lent left held.counts new
+    → Turns held (left_by held rung loaded left new) core act
+unfolding is_step steps_in
+turned held stepped rung after loaded lent left core act ranges new kept here few c f =
+    let memory : List (List ℕ) = c.memory in
     let lines : Lines = settled_lines act lent in
-    let is : IsStep held stepped memory lines core act ranges = is_step held stepped memory lent core act ranges kept here step in
+    let is : IsStep held stepped memory lines core act ranges = is_step held stepped memory lent core act ranges kept here c.step in
     let h : IsHeard held stepped f.heard memory lines core act ranges = record { is = is; hears = f.hears } in
     let network : Network = network_of held in
     let machines : List Machine = machines_of held in
+    let pieces : List Piece = pieces_by held memory lent in
     let done : Stepped = done_by network machines held.lines.who core in
     let so = stepped_so held stepped memory lines core act ranges is in
-    let passage = passes held stepped memory lines core act ranges is d in
-    let descs = descs_stay held stepped f.heard rung memory loaded lines left core act ranges held.counts new h f.settles in
-    let all : machines_of (left_by held rung loaded left new unbuilt) ≡ after_log network (map delivered (brought network machines held.lines.who done.act)) (after_shown network machines held.lines.who core) =
-    settled held stepped f.heard rung memory loaded lines left core act ranges held.counts new unbuilt h kept.running refl f.settles
+    let did : Gives act held.lines lent = step_gives held.parts stepped held.memory memory held.lines lent core act ranges c.step in
+    let desc = heard_desc held stepped f.heard memory lines core act ranges held.lines.who h here in
+    let s : Arrives held.wiring held.lines.who act f.heard rung memory loaded lent left held.counts new =
+    arrives held.wiring held.lines.who act f.heard rung memory after loaded held.lines lent left (part_at held.parts held.lines.who).desc.regions held.counts new did (ap (λ (d : Desc). d.regions) (sym desc)) c.copied f.settles in
+    let descs = descs_stay held stepped f.heard rung memory loaded lines left core act ranges held.counts new h s in
+    let all : machines_of (left_by held rung loaded left new) ≡ after_log network (map delivered (brought network machines held.lines.who done.act)) (after_shown network machines held.lines.who core) =
+    settled held stepped f.heard rung memory loaded lines left core act ranges held.counts new h kept.running refl pieces (has_pieces held stepped memory lines core act ranges is) s
     ∙ ap (λ (a : Act). after_log network (map delivered (brought network machines held.lines.who a)) (after_shown network machines held.lines.who core)) (sym so.act) in
     let logged : after_log network (log_of network machines held.lines.who core done) machines ≡ after_log network (map delivered (brought network machines held.lines.who done.act)) (after_shown network machines held.lines.who core) =
-    after_both network (shown network held.lines.who done) (map delivered (brought network machines held.lines.who done.act)) (after_entry network (entry_for held.lines.who (Moves (Steps core []))) machines) in
+    after_both network (shown network held.lines.who done) (map delivered (brought network machines held.lines.who done.act)) (after_entry network (entry_for held.lines.who (stepping held held.lines.who core)) machines) in
     let counts : new ≡ printed_by network held.lines.who done.act held.counts =
-    printed_so held f.heard rung memory loaded lent left act held.counts new f.settles ∙ ap (λ (a : Act). printed_by network held.lines.who a held.counts) (sym so.act) in
+    printed_so held f.heard rung memory loaded lent left act held.counts new s pieces ∙ ap (λ (a : Act). printed_by network held.lines.who a held.counts) (sym so.act) in
     record {
-      system = turn_kept held stepped f.heard rung memory loaded lines left core act ranges new unbuilt h f.settles (done_counts act d) few (λ handle. has_console held handle kept);
+      system = turn_kept held stepped f.heard rung memory loaded lines left core act ranges new h s few (λ handle. has_console held handle kept);
       network = ap (λ (l : List Desc). let it : Network = record { descs = l; wiring = held.wiring } in it) descs;
       world = ap (λ (ms : List Machine). let it : World = record { machines = ms; consoles = new } in it) (all ∙ sym logged)
-          ∙ (ap (λ (cs : List Counts). let it : World = record { machines = after_log network (log_of network machines held.lines.who core done) machines; consoles = cs } in it) counts
-          ∙ ap (λ (p : Passage). p.after) (sym passage));
-      unbuilt = none ∙ ap (λ (p : Passage). p.unbuilt) (sym passage);
+          ∙ ap (λ (cs : List Counts). let it : World = record { machines = after_log network (log_of network machines held.lines.who core done) machines; consoles = cs } in it) counts;
+      pieces = pieces;
       did = so.act;
-      counted = rises held (left_by held rung loaded left new unbuilt) (counts_step held stepped f.heard rung memory loaded lines left core act ranges held.counts new h f.settles (done_counts act d));
+      total = so.total;
+      counted = rises held (left_by held rung loaded left new) (counts_step held stepped f.heard rung memory loaded lines left core act ranges held.counts new h s);
     }
-
-still : (old : Held) (unbuilt : Option ℕ) → IsSystem old → IsSystem (record old { unbuilt = unbuilt })
-still old unbuilt k = record { joined = k.joined; wires = k.wires; running = k.running; channels = k.channels; consoles = k.consoles; counts = k.counts; placed = k.placed; taken = k.taken; counted = k.counted }
-
-machines_still : (old : Held) (unbuilt : Option ℕ) → (snapshot_of (record old { unbuilt = unbuilt })).world ≡ (snapshot_of old).world
-unfolding machines_of
-machines_still old unbuilt = refl
-
--- a step that isn't built leaves all as it was
-pub turns_unbuilt : (held : Held) (stepped : List Member) (memory : List (List ℕ)) (lent : Lines) (core : ℕ) (ranges : List Wrote) (steps : ℕ) → IsSystem held → held.lines.who < length held.parts
-    → AfterStep held.parts stepped held.memory memory held.lines lent core told.NotBuilt ranges → steps ≡ (part_at stepped held.lines.who).inner.steps
-    → Turns held (left_by held stepped memory lent held.counts (Some (steps + 1))) core told.NotBuilt
-unfolding steps_in
-turns_unbuilt held stepped memory lent core ranges steps kept here step e =
-    let who : ℕ = held.lines.who in
-    let network : Network = network_of held in
-    let so = stepped_so held stepped memory lent core told.NotBuilt ranges (is_step held stepped memory lent core told.NotBuilt ranges kept here step) in
-    let done : Stepped = done_by network (machines_of held) who core in
-    let parts : stepped ≡ held.parts = step.parts ∙ (ap (slice_set held.parts who) step.kept ∙ set-get_or held.parts who _) in
-    let same : left_by held stepped memory lent held.counts (Some (steps + 1)) ≡ record held { unbuilt = Some (steps + 1) } =
-    ap (λ (ps : List Member). left_by held ps memory lent held.counts (Some (steps + 1))) parts
-    ∙ (ap (λ (m : List (List ℕ)). left_by held held.parts m lent held.counts (Some (steps + 1))) step.memory
-    ∙ ap (λ (ls : Lines). left_by held held.parts held.memory ls held.counts (Some (steps + 1))) step.did) in
-    let passage : steps_in network who core (snapshot_of held).world ≡ ended who (snapshot_of held).world = ap (after_act network who core (snapshot_of held).world done) so.act in
-    let count : steps ≡ (machine_at (machines_of held) who).inner.steps =
-    e ∙ (ap (λ (p : Member). p.inner.steps) step.kept ∙ ap (λ (m : Machine). m.inner.steps) (sym (machine_there held who (fresh no_desc) here))) in
-    subst (λ (new : Held). Turns held new core told.NotBuilt) (sym same)
-    (record {
-      system = still held (Some (steps + 1)) kept;
-      network = refl;
-      world = machines_still held (Some (steps + 1)) ∙ ap (λ (p : Passage). p.after) (sym passage);
-      unbuilt = ap (λ (n : ℕ). Some (n + 1)) count ∙ ap (λ (p : Passage). p.unbuilt) (sym passage);
-      did = so.act;
-      counted = λ part.
-          let same = ap (λ (w : World). (machine_at w.machines part).inner.steps) (machines_still held (Some (steps + 1))) in
-          omega (arith, same);
-    })
 
 -- ---- what the program asks for
 
@@ -225,9 +181,11 @@ pub record KeepsLent (old new : Lines) : Type 0 where
 lent_by : (old new next : Lines) → new ≡ next → KeepsLent old next → KeepsLent old new
 lent_by old new next e k = subst (λ (ls : Lines). KeepsLent old ls) (sym e) k
 
-pub did_keeps : (act : Told) (old new : Lines) → Did Sends Takes act old new → KeepsLent old new
+pub did_keeps : (act : Told) (old new : Lines) → Gives act old new → KeepsLent old new
 did_keeps (told.Sent handle bytes) old new did = lent_by old new _ did (record { who = refl; running = refl; wires = refl })
 did_keeps (told.Took handle count) old new did = lent_by old new _ did (record { who = refl; running = refl; wires = refl })
+did_keeps (told.CopyTo handle count) old new did = lent_by old new _ did (record { who = refl; running = refl; wires = refl })
+did_keeps (told.CopyFrom handle count) old new did = lent_by old new _ did (record { who = refl; running = refl; wires = refl })
 did_keeps _ old new did = lent_by old new old did (record { who = refl; running = refl; wires = refl })
 
 -- handles of the board are those of the description
@@ -236,9 +194,10 @@ lent_kinds held kept here = kinds_are held held.lines.who kept here
 
 -- what a step leaves can be settled
 pub asks : (held : Held) (stepped : List Member) (memory : List (List ℕ)) (lent : Lines) (core : ℕ) (act : Told) (ranges : List Wrote) → IsSystem held → held.lines.who < length held.parts
-    → AfterStep held.parts stepped held.memory memory held.lines lent core act ranges → Asks held.wiring act stepped memory lent held.counts
-asks held stepped memory lent core act ranges kept here step =
-    let k = did_keeps act held.lines lent step.did in
+    → AfterCopy held.parts stepped held.memory memory held.lines lent core act ranges → Asks held.wiring act stepped memory lent held.counts
+asks held stepped memory lent core act ranges kept here c =
+    let step = c.step in
+    let k = did_keeps act held.lines lent (step_gives held.parts stepped held.memory c.memory held.lines lent core act ranges step) in
     let who = k.who in
     let long : length stepped ≡ length held.parts = ap length step.parts ∙ length-set held.parts held.lines.who (part_at stepped held.lines.who) in
     let descs : length (descs_of held.parts) ≡ length held.parts = length-map held.parts (λ (p : Member). p.desc) in
@@ -250,7 +209,7 @@ asks held stepped memory lent core act ranges kept here step =
       placed = λ part there.
           let within : part < length held.parts = omega (arith, there, long) in
           subst (λ (d : Desc). ArePlaced memory d.regions) (sym (stepped_desc part within (part == held.lines.who) refl))
-          (all_still_placed held.memory memory (part_at held.parts part).desc.regions step.sizes (kept.placed part within));
+          (all_still_placed held.memory memory (part_at held.parts part).desc.regions (ap sizes_of c.copied ∙ (with_copy_sizes held.lines (part_at held.parts held.lines.who).desc.regions lent.last act c.memory ∙ step.sizes)) (kept.placed part within));
       handle = subst (λ (ks : List Kind). HasHandle ks act) (sym (kinds ∙ lent_kinds held kept here)) step.handle;
       bytes = step.bytes;
       entry = step.entry;
@@ -259,8 +218,8 @@ asks held stepped memory lent core act ranges kept here step =
     }
   where
     stepped_desc : (part : ℕ) → part < length held.parts → (b : Bool) → (part == held.lines.who) ≡ b → (part_at stepped part).desc ≡ (part_at held.parts part).desc
-    stepped_desc part there false e = ap (λ (ps : List Member). (part_at ps part).desc) step.parts ∙ ap (λ (p : Member). p.desc) (get_or-set_other held.parts held.lines.who part (part_at stepped held.lines.who) no_part (eqb-false part held.lines.who e))
-    stepped_desc part there true e = subst (λ (n : ℕ). (part_at stepped n).desc ≡ (part_at held.parts n).desc) (sym (eqb-true part held.lines.who e)) step.desc
+    stepped_desc part there false e = ap (λ (ps : List Member). (part_at ps part).desc) c.step.parts ∙ ap (λ (p : Member). p.desc) (get_or-set_other held.parts held.lines.who part (part_at stepped held.lines.who) no_part (eqb-false part held.lines.who e))
+    stepped_desc part there true e = subst (λ (n : ℕ). (part_at stepped n).desc ≡ (part_at held.parts n).desc) (sym (eqb-true part held.lines.who e)) c.step.desc
 
 -- and so it is once others heard of its stores
 pub heard_asks : (wiring : Wiring) (act : Told) (stepped heard : List Member) (memory : List (List ℕ)) (lines : Lines) (counts : List Counts) (ranges : List Wrote) → Asks wiring act stepped memory lines counts
@@ -283,10 +242,6 @@ heard_asks wiring act stepped heard memory lines counts ranges a h = record {
     same_desc part true = refl
     same_desc part false = refl
 
-pub is_done : (act : Told) → (act ≡ told.NotBuilt → ⊥) → IsDone act
-is_done told.NotBuilt h = h refl
-is_done _ h = tt
-
 -- ---- lent to a partition
 
 abbrev pub lent_to : Held → ℕ → Held
@@ -297,7 +252,7 @@ unfolding machines_of
 lent_same held who = refl
 
 pub lent_kept : (held : Held) (who : ℕ) → IsSystem held → IsSystem (lent_to held who)
-lent_kept held who k = record { joined = k.joined; wires = k.wires; running = k.running; channels = k.channels; consoles = k.consoles; counts = k.counts; placed = k.placed; taken = k.taken; counted = record { steps = k.counted.steps; printed = k.counted.printed; entered = k.counted.entered } }
+lent_kept held who k = record { joined = k.joined; wires = k.wires; running = k.running; channels = k.channels; maps = k.maps; consoles = k.consoles; counts = k.counts; placed = k.placed; taken = k.taken; counted = record { steps = k.counted.steps; printed = k.counted.printed; entered = k.counted.entered } }
 
 pub inner_there : (held : Held) (now : Snapshot) (part who : ℕ) → snapshot_of held ≡ now → part < length now.network.descs → who ≡ part
     → (machine_at now.world.machines part).inner ≡ (part_at held.parts who).inner
@@ -309,55 +264,42 @@ inner_there held now part who view here same =
 
 -- ---- the line of a step
 
-agrees : (name : List ℕ) (number : ℕ) (act : Told) → act_text name number act ≡ act_line name number (act_of act)
-agrees name number told.None = refl
-agrees name number _ = refl
+agrees : (name : List ℕ) (number : ℕ) (pieces : List Piece) (act : Told) → HasTotal pieces act → act_text name number act ≡ act_line name number (act_of pieces act)
+agrees name number pieces (told.CopyTo handle count) total = ap (copy_to_line name number handle) total
+agrees name number pieces told.None total = refl
+agrees name number pieces _ total = refl
 
 one_line : (network : Network) (part number : ℕ) (act : Act) → act_lines network (line_of part (record { step = number; act = act }) ∷ []) ≡ act_line (desc_at network part).name number act
 one_line network part number act =
     flat_map-cons (λ (line : Line). traced_line (desc_at network line.part).name line.traced) (line_of part (record { step = number; act = act })) []
     ∙ append-nil (act_line (desc_at network part).name number act)
 
--- what the definition writes of it
-abbrev DoneLines : Network → World → ℕ → ℕ → Act → List ℕ
-DoneLines network world part core act = act_lines network (after_act network part core world (done_by network world.machines part core) act).lines
-
-abbrev told_line : Network → World → ℕ → Told → List ℕ
+abbrev pub told_line : Network → World → ℕ → Told → List ℕ
 told_line network world part act = act_text (desc_at network part).name ((machine_at world.machines part).inner.steps + 1) act
 
-lined_built : (network : Network) (world : World) (part core : ℕ) (act : Told) → IsDone act → (done_by network world.machines part core).act ≡ act_of act
-    → told_line network world part act ≡ DoneLines network world part core (act_of act)
-lined_built network world part core act d e =
+lined : (network : Network) (world : World) (part core : ℕ) (pieces : List Piece) (act : Told) → (done_by network world.machines part core).act ≡ act_of pieces act → HasTotal pieces act
+    → told_line network world part act ≡ act_lines network (steps_in network part core world).lines
+unfolding steps_in
+lined network world part core pieces act e total =
     let done : Stepped = done_by network world.machines part core in
     let before : ℕ = (machine_at world.machines part).inner.steps in
     let name : List ℕ = (desc_at network part).name in
-    let count : done.after.inner.steps ≡ before + 1 = (steps_so (desc_at network part) (machine_at world.machines part) core []).counted ∙ (ap (λ (a : Act). steps_after a before) e ∙ done_counts act d before) in
-    agrees name (before + 1) act
-    ∙ (ap (λ (n : ℕ). act_line name n (act_of act)) (sym count)
+    let count : done.after.inner.steps ≡ before + 1 = (steps_so (desc_at network part) (machine_at world.machines part) core (feed_for network world.machines part core)).counted in
+    agrees name (before + 1) pieces act total
+    ∙ (ap (λ (n : ℕ). act_line name n (act_of pieces act)) (sym count)
     ∙ (ap (act_line name done.after.inner.steps) (sym e)
-    ∙ (sym (one_line network part done.after.inner.steps done.act) ∙ ap (λ (p : Passage). act_lines network p.lines) (sym (done_after network part core world done act d)))))
-
-lined_as : (network : Network) (world : World) (part core : ℕ) (act : Told) → (done_by network world.machines part core).act ≡ act_of act → told_line network world part act ≡ DoneLines network world part core (act_of act)
-lined_as network world part core told.NotBuilt e = refl
-lined_as network world part core act e = lined_built network world part core act tt e
-
-lined : (network : Network) (world : World) (part core : ℕ) (act : Told) → (done_by network world.machines part core).act ≡ act_of act
-    → told_line network world part act ≡ act_lines network (steps_in network part core world).lines
-unfolding steps_in
-lined network world part core act e = lined_as network world part core act e ∙ ap (DoneLines network world part core) (sym e)
+    ∙ sym (one_line network part done.after.inner.steps done.act)))
 
 -- a step of the network, by what callers see
 pub record IsTurned (now : Snapshot) (new : Held) (part core : ℕ) (act : Told) : Type 0 where
   pub world : (snapshot_of new).world ≡ (steps_in now.network part core now.world).after
-  pub unbuilt : new.unbuilt ≡ (steps_in now.network part core now.world).unbuilt
   pub line : act_text (desc_at now.network part).name ((machine_at now.world.machines part).inner.steps + 1) act ≡ act_lines now.network (steps_in now.network part core now.world).lines
   pub counted : (other : ℕ) → (machine_at (machines_of new) other).inner.steps ≤ (machine_at now.world.machines other).inner.steps + 1
 
 turned_lent : (held new : Held) (part core : ℕ) (act : Told) → Turns (lent_to held part) new core act → IsTurned (snapshot_of held) new part core act
 turned_lent held new part core act t = record {
   world = t.world ∙ ap (λ (s : Snapshot). (steps_in (network_of held) part core s.world).after) (lent_same held part);
-  unbuilt = t.unbuilt ∙ ap (λ (s : Snapshot). (steps_in (network_of held) part core s.world).unbuilt) (lent_same held part);
-  line = lined (network_of held) (snapshot_of held).world part core act (ap (λ (s : Snapshot). (done_by (network_of held) s.world.machines part core).act) (sym (lent_same held part)) ∙ t.did);
+  line = lined (network_of held) (snapshot_of held).world part core t.pieces act (ap (λ (s : Snapshot). (done_by (network_of held) s.world.machines part core).act) (sym (lent_same held part)) ∙ t.did) t.total;
   counted = λ other. subst (λ (s : Snapshot). (machine_at (machines_of new) other).inner.steps ≤ (machine_at s.world.machines other).inner.steps + 1) (lent_same held part) (t.counted other);
 }
 

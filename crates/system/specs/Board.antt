@@ -1,10 +1,14 @@
 -- What the handles of all partitions lead to, and what the machine of the one that it is lent to has of its own.
-use Rattle.std.specs.Prelude.{◌≡◌, ◌≢◌, ℕ, ◌-◌, ◌<◌, ◌==◌, nat_lt, Bool, true, false, List, [], ◌∷◌, length, map, slice_index_or, slice_set}
+use Rattle.std.specs.Prelude.{◌≡◌, ◌≢◌, ℕ, ◌-◌, ◌<◌, ◌==◌, nat_lt, Bool, true, false, if◌then◌else◌, List, [], ◌∷◌, length, map, flat_map, slice_index_or, slice_set, Option, Some, None}
 use Rattle.byte_channel.specs.declared.side.Side.TheVariants.{A}
 use Rattle.byte_channel.specs.Waiting.{Waiting, most_waiting, waiting_at, other_side, empty_channel, after_send, after_receive, after_clear}
 use Rattle.partition.specs.declared.kind.Kind.{Kind}
 use Rattle.partition.specs.declared.kind.Kind.TheVariants as kind
+use Rattle.machine_desc.specs.declared.desc.Region.{Region}
+use Rattle.machine_desc.specs.declared.desc.Span.{Span}
+use Rattle.copy_lists.specs.Moving.{bytes_in}
 use Rattle.partition.specs.Port.{End, empty_end}
+use Rattle.partition.specs.Copying.{Copy}
 use Rattle.system.specs.declared.wire.ChannelEnd.{ChannelEnd}
 use Rattle.system.specs.declared.wire.Wire.{Wire}
 use Rattle.system.specs.declared.wire.Wire.TheVariants.{Channel, Send, Receive, Manage}
@@ -20,6 +24,10 @@ pub record Lines : Type 0 where
   pub running : List Bool
   -- of each console, its end of a channel
   pub consoles : List ChannelEnd
+  -- of each partition, the regions of its memory
+  pub maps : List (List Region)
+  -- what was copied last
+  pub last : Copy
 
 -- ---- a handle
 
@@ -113,6 +121,40 @@ Sends old handle bytes new = new ≡ record old { channels = sent_by old.channel
 abbrev pub Takes : Lines → ℕ → ℕ → Lines → Type 0
 Takes old handle count new = new ≡ record old { channels = taken_by old.channels (own_wire old handle) count }
 
+-- ---- copies
+
+-- the partition that a wire manages
+abbrev pub managed_by : Wire → ℕ
+managed_by (Manage part) = part
+managed_by _ = 0
+
+-- the wire of a handle, of which there is none with the number 0
+abbrev pub handle_wire : Lines → ℕ → Wire
+handle_wire lines handle = if handle == 0 then no_wire else own_wire lines handle
+
+abbrev pub regions_at : List (List Region) → ℕ → List Region
+regions_at maps part = slice_index_or maps part []
+
+-- the regions of the partition that a wire manages, if it manages one
+abbrev pub regions_by : List (List Region) → Wire → Option (List Region)
+regions_by maps (Manage part) = Some (regions_at maps part)
+regions_by maps _ = None
+
+abbrev pub told_by : Lines → ℕ → Option (List Region)
+told_by lines handle = regions_by lines.maps (handle_wire lines handle)
+
+-- the bytes at these ranges of the logical addresses of the partition that a handle manages
+abbrev pub fed_by : Lines → List (List ℕ) → ℕ → List Span → List ℕ
+fed_by lines memory handle ranges =
+    flat_map (λ (range : Span). bytes_in (regions_at lines.maps (managed_by (handle_wire lines handle))) memory range.at range.size) ranges
+
+abbrev pub last_of : Lines → Copy
+last_of lines = lines.last
+
+-- a copy is noted
+abbrev pub Copies : Lines → List (List ℕ) → Copy → Lines → Type 0
+Copies old memory last new = new ≡ record old { last = last }
+
 -- ---- consoles
 
 -- where a list has none
@@ -147,5 +189,6 @@ pub record AreWires (channels parts : ℕ) (wires : List Wire) : Type 0 where
 
 pub record AreLines (lines : Lines) : Type 0 where
   pub running : length lines.running ≡ length lines.wires
+  pub maps : length lines.maps ≡ length lines.wires
   pub each : (part : ℕ) → part < length lines.wires → AreWires (length lines.channels) (length lines.wires) (wires_at lines.wires part)
   pub consoles : (console : ℕ) → console < length lines.consoles → (console_at lines.consoles console).link < length lines.channels

@@ -1,5 +1,5 @@
 -- What a system of partitions holds, and what of it callers see.
-use Rattle.std.specs.Prelude.{◌≡◌, ℕ, ◌+◌, ◌*◌, ◌<◌, ◌≤◌, Bool, not, List, [], length, map, slice_index_or, sum_by, Option}
+use Rattle.std.specs.Prelude.{◌≡◌, ℕ, ◌+◌, ◌*◌, ◌<◌, ◌≤◌, Bool, not, List, [], length, map, slice_index_or, sum_by}
 use Rattle.std.specs.List.{list_all, range_with_len}
 use Rattle.byte_channel.specs.Waiting.{Waiting, most_waiting, waiting_at}
 use Rattle.machine_desc.specs.declared.desc.Desc.{Desc}
@@ -14,7 +14,7 @@ use Rattle.network.specs.Network.{Network, no_desc}
 use Rattle.network.specs.World.{Counts, World, counts_at}
 use Rattle.network.specs.Turn.{is_running}
 use Rattle.system.specs.Board.{Lines, channel_at, console_room, ends_of, wires_at}
-use Rattle.system.specs.Wired.{all_wires, console_side}
+use Rattle.system.specs.Wired.{all_wires, console_side, regions_of}
 
 pub record Held : Type 0 where
   pub parts : List Part
@@ -24,8 +24,6 @@ pub record Held : Type 0 where
   pub wiring : Wiring
   -- by console
   pub counts : List Counts
-  -- the step that ended the run, by its number among its partition's own, since it isn't built
-  pub unbuilt : Option ℕ
 
 -- ---- what callers see
 
@@ -59,17 +57,15 @@ are_parts_at_rest parts = list_all (λ (part : Part). not (is_running part.inner
 unfoldable pub machines_of : Held → List Machine
 machines_of held = map (machine_in held) (range_with_len 0 (length held.parts))
 
--- the network, the world that it is in, and the step that ended the run
+-- the network, and the world that it is in
 pub record Snapshot : Type 0 where
   pub network : Network
   pub world : World
-  pub unbuilt : Option ℕ
 
 abbrev pub snapshot_of : Held → Snapshot
 snapshot_of held = record {
   network = network_of held;
   world = record { machines = machines_of held; consoles = held.counts };
-  unbuilt = held.unbuilt;
 }
 
 -- ---- what it keeps
@@ -97,6 +93,7 @@ pub record IsSystem (held : Held) : Type 0 where
   pub wires : held.lines.wires ≡ all_wires held.wiring 0 (descs_of held.parts)
   pub running : length held.lines.running ≡ length held.parts
   pub channels : length held.lines.channels ≡ length held.wiring.links
+  pub maps : held.lines.maps ≡ map regions_of (descs_of held.parts)
   pub consoles : held.lines.consoles ≡ map (console_side held.wiring.links) (range_with_len 0 (length held.wiring.consoles))
   pub counts : length held.counts ≡ length held.wiring.consoles
   pub placed : (part : ℕ) → part < length held.parts → ArePlaced held.memory (part_at held.parts part).desc.regions

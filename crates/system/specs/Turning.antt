@@ -1,5 +1,5 @@
 -- What the steps of a turn leave.
-use Rattle.std.specs.Prelude.{◌≡◌, ℕ, zero, suc, ◌+◌, ◌<◌, ◌≤◌, ◌==◌, Bool, true, false, if◌then◌else◌, List, length, map, slice_set, Option, Some}
+use Rattle.std.specs.Prelude.{◌≡◌, ℕ, zero, suc, ◌+◌, ◌<◌, ◌≤◌, ◌==◌, Bool, true, false, if◌then◌else◌, List, [], length, map, slice_set, Option, Some}
 use Rattle.core_step.specs.declared.answer.Wrote.{Wrote}
 use Rattle.core_step.specs.Access.{SameSizes}
 use Rattle.ground.specs.Extents.{extent_at}
@@ -7,45 +7,61 @@ use Rattle.ground.specs.Own.{KeepsForeign}
 use Rattle.machine_desc.specs.declared.act.Act.{Act as Told}
 use Rattle.machine_desc.specs.declared.act.Act.TheVariants as told
 use Rattle.machine_desc.specs.declared.act.State.TheVariants.{Stopped}
+use Rattle.machine_desc.specs.declared.desc.Region.{Region}
 use Rattle.machine_desc.specs.declared.wiring.End.{End}
 use Rattle.machine_desc.specs.declared.wiring.End.TheVariants.{Part, Console}
 use Rattle.machine_desc.specs.declared.wiring.Wiring.{Wiring}
 use Rattle.machine_desc.specs.declared.wiring.PortRef.{PortRef}
 use Rattle.machine_desc.specs.declared.wiring.Bell.{Bell}
+use Rattle.copy_lists.specs.declared.list.SgEntry.{SgEntry}
+use Rattle.copy_lists.specs.Pieces.{Piece, targets_of}
 use Rattle.fresh_load.specs.Placed.{ArePlaced, extents_of, is_private_extent, sizes_of}
 use Rattle.partition.specs.Port.{End as OwnEnd, emptied, kinds_of}
-use Rattle.partition.specs.Act.{act_of, settled, steps_after}
+use Rattle.partition.specs.Act.{HasTotal, act_of, settled}
+use Rattle.partition.specs.Copying.{Copy}
+use Rattle.partition.specs.Asking.{Asked, asks, next_copy}
 use Rattle.partition.specs.Event.{Event, apply}
 use Rattle.partition.specs.Event as event
 use Rattle.partition.specs.Step.{step}
-use Rattle.partition.specs.Reservations.{with_kept}
+use Rattle.partition.specs.Machine.{Machine}
+use Rattle.partition.specs.Reservations.{with_copied, with_kept}
 use Rattle.partition.specs.Interrupts.{bell_at, rung_by}
-use Rattle.partition.specs.Lending.{Part as Member, Did, HasBytes, HasEntry, HasHandle, IsStepped, KeepsUnbuilt, machine_of}
+use Rattle.partition.specs.Lending.{Part as Member, Did, HasBytes, HasEntry, HasHandle, IsStepped, machine_of, pieces_of, written_into}
 use Rattle.network.specs.Network.{ref_to, hears, far_end}
 use Rattle.network.specs.World.{Counts, counts_at, machine_at}
 use Rattle.network.specs.Effects.{count_printed}
-use Rattle.system.specs.declared.wire.Wire.{Wire}
-use Rattle.system.specs.declared.wire.Wire.TheVariants.{Manage}
-use Rattle.system.specs.Board.{Lines, emptied_lines, own_ends, own_kinds, own_wire, printed_by, Sends, Takes}
+use Rattle.system.specs.Board.{Lines, emptied_lines, fed_by, last_of, managed_by, own_ends, own_kinds, own_wire, printed_by, told_by, Copies, Sends, Takes}
 use Rattle.network.specs.Turn.{done_by, steps_in}
 use Rattle.system.specs.System.{Held, most_counted, part_at, machine_by, network_of, machines_of, snapshot_of, IsSystem}
 
--- the partition that the board was lent to did a step of a core
+-- the partition that the board was lent to did a step of a core, but for what it copied into another one
 pub record AfterStep (before after : List Member) (old_memory new_memory : List (List ℕ)) (old new : Lines) (core : ℕ) (act : Told) (ranges : List Wrote) : Type 0 where
   pub parts : after ≡ slice_set before old.who (part_at after old.who)
-  pub stepped : (feed : List ℕ) → IsStepped (extents_of (part_at before old.who).desc.regions)
-      (step (part_at before old.who).desc (machine_by (part_at before old.who) old old_memory old.who) core feed)
-      (machine_of (part_at after old.who) (settled (act_of act) (own_ends new)) new_memory) act ranges
+  pub stepped : let machine : Machine = machine_by (part_at before old.who) old old_memory old.who in
+      let asked : Asked = asks (part_at before old.who).desc machine core in
+      IsStepped (extents_of (part_at before old.who).desc.regions) (pieces_of (part_at before old.who).desc.regions new_memory new.last)
+      (step (part_at before old.who).desc machine core (fed_by old old_memory asked.handle asked.ranges))
+      (machine_of (part_at after old.who) (settled (act_of [] act) (own_ends new)) new_memory) act ranges
   pub desc : (part_at after old.who).desc ≡ (part_at before old.who).desc
-  pub counted : (part_at after old.who).inner.steps ≡ steps_after (act_of act) (part_at before old.who).inner.steps
+  pub counted : (part_at after old.who).inner.steps ≡ (part_at before old.who).inner.steps + 1
   pub others : KeepsForeign (extents_of (part_at before old.who).desc.regions) old_memory new_memory
   pub sizes : SameSizes old_memory new_memory
-  pub kept : KeepsUnbuilt act (part_at before old.who) (part_at after old.who)
-  pub memory : KeepsUnbuilt act old_memory new_memory
   pub bytes : HasBytes act
   pub entry : HasEntry act
   pub handle : HasHandle (kinds_of (part_at before old.who).desc.ports) act
-  pub did : Did Sends Takes act old new
+  pub did : Did Sends Takes Copies last_of (next_copy (part_at before old.who).desc (machine_by (part_at before old.who) old old_memory old.who) core) old_memory act old new
+
+-- the memory after a copy into another partition, by the regions of the caller
+abbrev pub with_copy : Lines → List Region → Copy → Told → List (List ℕ) → List (List ℕ)
+with_copy lines own last (told.CopyTo handle count) memory = written_into (told_by lines handle) own last.entries memory
+with_copy lines own last _ memory = memory
+
+-- and with that
+pub record AfterCopy (before after : List Member) (old_memory new_memory : List (List ℕ)) (old new : Lines) (core : ℕ) (act : Told) (ranges : List Wrote) : Type 0 where
+  -- before the copy
+  pub memory : List (List ℕ)
+  pub step : AfterStep before after old_memory memory old new core act ranges
+  pub copied : new_memory ≡ with_copy old (part_at before old.who).desc.regions new.last act memory
 
 -- a partition once others stored in these ranges
 abbrev pub kept_part : List Wrote → Member → Member
@@ -86,11 +102,6 @@ printed_lines _ handle lines = lines
 abbrev pub marked_lines : Lines → ℕ → Bool → Lines
 marked_lines lines managed runs = record lines { running = slice_set lines.running managed runs }
 
--- the partition that a wire manages
-abbrev pub managed_by : Wire → ℕ
-managed_by (Manage part) = part
-managed_by _ = 0
-
 -- The partition of this number began anew by the event, but for its ends: what it received is still theirs to drop who lend them.
 -- No other partition changed, and of the memory only what it has for itself.
 pub record Begins (began : Event) (number : ℕ) (before after : List Member) (old_memory new_memory : List (List ℕ)) : Type 0 where
@@ -104,6 +115,10 @@ pub record Begins (began : Event) (number : ℕ) (before after : List Member) (o
 -- a partition that no longer runs
 abbrev pub stopped_part : Member → Member
 stopped_part part = record part { inner = record part.inner { state = Stopped } }
+
+-- a partition into whose memory a manager copied by these entries
+abbrev pub copied_part : List SgEntry → Member → Member
+copied_part entries part = record part { inner = record part.inner { cores = map (with_copied (targets_of entries)) part.inner.cores } }
 
 -- The partitions, their memory, the board and the counts of consoles are as before, but for what the act says.
 abbrev pub Settles : Wiring → ℕ → Told → List Member → List Member → List (List ℕ) → List (List ℕ) → Lines → Lines → List Counts → List Counts → Type 0
@@ -119,6 +134,9 @@ Settles wiring who (told.Stop handle) parts rung memory loaded lines left counts
 Settles wiring who (told.Restart handle) parts rung memory loaded lines left counts new =
     Begins event.Restart (managed_by (own_wire lines handle)) parts rung memory loaded
     × (left ≡ emptied_lines (marked_lines lines (managed_by (own_wire lines handle)) true) (managed_by (own_wire lines handle))) × (new ≡ counts) × Unit {0}
+Settles wiring who (told.CopyTo handle count) parts rung memory loaded lines left counts new =
+    (rung ≡ slice_set parts (managed_by (own_wire lines handle)) (copied_part lines.last.entries (part_at parts (managed_by (own_wire lines handle)))))
+    × (left ≡ lines) × (new ≡ counts) × (loaded ≡ memory)
 Settles wiring who told.SelfRestart parts rung memory loaded lines left counts new = (rung ≡ parts) × (left ≡ emptied_lines lines who) × (new ≡ counts) × (loaded ≡ memory)
 Settles wiring who told.SelfStop parts rung memory loaded lines left counts new = (rung ≡ parts) × (left ≡ marked_lines lines who false) × (new ≡ counts) × (loaded ≡ memory)
 Settles wiring who told.Faulted parts rung memory loaded lines left counts new = (rung ≡ parts) × (left ≡ marked_lines lines who false) × (new ≡ counts) × (loaded ≡ memory)
@@ -152,8 +170,9 @@ pub record Turns (old new : Held) (core : ℕ) (act : Told) : Type 0 where
   pub system : IsSystem new
   pub network : network_of new ≡ network_of old
   pub world : (snapshot_of new).world ≡ (steps_in (network_of old) old.lines.who core (snapshot_of old).world).after
-  pub unbuilt : new.unbuilt ≡ (steps_in (network_of old) old.lines.who core (snapshot_of old).world).unbuilt
-  pub did : (done_by (network_of old) (machines_of old) old.lines.who core).act ≡ act_of act
+  pub pieces : List Piece
+  pub did : (done_by (network_of old) (machines_of old) old.lines.who core).act ≡ act_of pieces act
+  pub total : HasTotal pieces act
   pub counted : (part : ℕ) → (machine_at (machines_of new) part).inner.steps ≤ (machine_at (machines_of old) part).inner.steps + 1
 
 -- the others heard of a step's stores, and then the act was settled
@@ -162,5 +181,5 @@ pub record Follows (wiring : Wiring) (who : ℕ) (act : Told) (stored : List Wro
   pub hears : Hears who stored parts heard
   pub settles : Settles wiring who act heard rung memory loaded lines left counts new
 
-abbrev pub held_of : List Member → List (List ℕ) → Lines → Wiring → List Counts → Option ℕ → Held
-held_of parts memory lines wiring counts unbuilt = record { parts = parts; memory = memory; lines = lines; wiring = wiring; counts = counts; unbuilt = unbuilt }
+abbrev pub held_of : List Member → List (List ℕ) → Lines → Wiring → List Counts → Held
+held_of parts memory lines wiring counts = record { parts = parts; memory = memory; lines = lines; wiring = wiring; counts = counts }

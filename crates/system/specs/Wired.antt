@@ -1,9 +1,10 @@
 -- What the handles of described partitions lead to, by their wiring.
-use Rattle.std.specs.Prelude.{ℕ, ◌+◌, ◌<◌, ◌≤◌, Bool, not, slice_index_or, if◌then◌else◌, List, [], ◌∷◌, length, map, replicate, unwrap_or}
+use Rattle.std.specs.Prelude.{ℕ, ◌+◌, ◌<◌, ◌≤◌, Bool, false, not, slice_index_or, if◌then◌else◌, List, [], ◌∷◌, length, map, replicate, unwrap_or}
 use Rattle.std.specs.List.{list_any, position, range_with_len}
 use Rattle.byte_channel.specs.declared.side.Side.TheVariants.{A, B}
 use Rattle.byte_channel.specs.Waiting.{empty_channel}
 use Rattle.machine_desc.specs.declared.desc.Desc.{Desc}
+use Rattle.machine_desc.specs.declared.desc.Region.{Region}
 use Rattle.machine_desc.specs.declared.desc.Port.{Port}
 use Rattle.machine_desc.specs.declared.desc.Port.TheVariants as described
 use Rattle.machine_desc.specs.declared.wiring.PortRef.{PortRef}
@@ -62,6 +63,9 @@ console_side links console = side_from 0 links (Console console)
 abbrev pub begins_running : Desc → Bool
 begins_running desc = not desc.held
 
+abbrev pub regions_of : Desc → List Region
+regions_of desc = desc.regions
+
 -- before the first turn
 unfoldable pub opening_lines : List Desc → Wiring → Lines
 opening_lines descs wiring = record {
@@ -70,6 +74,8 @@ opening_lines descs wiring = record {
   channels = replicate (length wiring.links) empty_channel;
   running = map begins_running descs;
   consoles = map (console_side wiring.links) (range_with_len 0 (length wiring.consoles));
+  maps = map regions_of descs;
+  last = record { handle = 0; to_managed = false; entries = [] };
 }
 
 -- no partition has more handles than it may

@@ -8,16 +8,20 @@ ghost use Rattle.partition.specs.Port.{kind_at};
 ghost use Rattle.system.specs.Board as spec;
 
 use crate::wire::{ChannelEnd, Wire};
-use crate::wiring::{all_wires, beginnings, console_sides, empty_channels};
+use crate::wiring::{all_maps, all_wires, beginnings, console_sides, empty_channels};
 use byte_channel::{Channel, Side};
+use copy_lists::{SgList, sg_copy};
+use ground::Ground;
 use machine_desc::{Desc, Wiring};
+use memory_areas::AreaMap;
 use outside::{Listed, NoMemory};
 use partition::{Kind, Ports};
 use std::alloc::Global;
 use std::marker::Model;
 
-/// What the handles of all partitions lead to: one channel for its two ends, and whether each partition runs. It is lent to
-/// one partition at a time, which knows its own handles alone. No call takes memory.
+/// What the handles of all partitions lead to: one channel for its two ends, whether each partition runs, and where its
+/// memory lies. It is lent to one partition at a time, which knows its own handles alone. It keeps what was copied last. Only
+/// `new` takes memory.
 #[derive(Drop)]
 pub struct Board {
     who: usize,
@@ -25,6 +29,11 @@ pub struct Board {
     channels: Vec<Channel>,
     running: Vec<bool>,
     consoles: Vec<ChannelEnd>,
+    /// By partition.
+    maps: Vec<AreaMap>,
+    handle: u32,
+    to_managed: bool,
+    list: SgList,
 }
 
 impl Model for Board {
@@ -38,6 +47,8 @@ impl Model for Board {
       channels = board.channels.items;
       running = board.running.items;
       consoles = board.consoles.items;
+      maps = board.maps.items;
+      last = record { handle = board.handle; to_managed = board.to_managed; entries = board.list };
     } };
 
     ghost invariant = { λ board. AreLines (record {
@@ -46,17 +57,21 @@ impl Model for Board {
       channels = board.channels.items;
       running = board.running.items;
       consoles = board.consoles.items;
+      maps = board.maps.items;
+      last = record { handle = board.handle; to_managed = board.to_managed; entries = board.list };
     }) };
 }
 
 impl Board {
     /// What the handles of joined partitions lead to before the first turn. Fails only where memory runs out.
-    #[tactic(auto, using(crate::proofs::Tied::opening_kept, crate::proofs::Tied::few_handles), unfolding(crate::specs::Wired::opening_lines))]
+    #[tactic(auto, using(crate::proofs::Tied::opening_kept, crate::proofs::Tied::few_handles, crate::proofs::Opened::joined_sound), unfolding(crate::specs::Wired::opening_lines))]
     pub fn new(alloc: Global, descs: &[Desc], wiring: &Wiring) -> Result<Board, NoMemory>
         requires joined { AreJoined descs.now wiring.now }
         ensures opening { IfOk result (λ board. board ≡ opening_lines descs.now wiring.now) }
     {
         let wires = all_wires(alloc, wiring, descs)?;
+        let maps = all_maps(alloc, descs)?;
+        let list = SgList::new(alloc)?;
         let channels = empty_channels(alloc, wiring.links.as_slice().len())?;
         let running = beginnings(alloc, descs)?;
         let consoles = console_sides(
@@ -70,6 +85,10 @@ impl Board {
             channels,
             running,
             consoles,
+            maps,
+            handle: 0,
+            to_managed: false,
+            list,
         })
     }
 
@@ -191,6 +210,22 @@ impl Board {
         }
     }
 
+    /// Notes what was copied.
+    fn note(&mut self, h: u32, to_managed: bool, list: &SgList)
+        ensures { self.new ≡ record self.old { last = record { handle = h; to_managed = to_managed; entries = list.now } } }
+    {
+        self.handle = h;
+        self.to_managed = to_managed;
+        self.list.set(list);
+    }
+
+    /// The list of the last copy.
+    pub fn list(&self) -> &SgList
+        ensures { result.now ≡ self.now.last.entries }
+    {
+        &self.list
+    }
+
     /// Notes whether a partition runs.
     pub fn mark(&mut self, part: usize, running: bool)
         requires { part < length self.old.wires }
@@ -218,6 +253,14 @@ impl Ports for Board {
     ghost sends = { spec.Sends };
 
     ghost takes = { spec.Takes };
+
+    ghost copies = { spec.Copies };
+
+    ghost told = { spec.told_by };
+
+    ghost feed = { spec.fed_by };
+
+    ghost last = { spec.last_of };
 
     #[tactic(auto, using(crate::proofs::Seen::end_here))]
     fn waiting(&self, h: u32) -> u16 {
@@ -257,5 +300,22 @@ impl Ports for Board {
             Wire::Channel { link, side } => self.take_at(link, side, into),
             _ => unreachable!(),
         }
+    }
+
+    fn copy(
+        &mut self,
+        ground: &mut Ground,
+        own: &AreaMap,
+        h: u32,
+        to_managed: bool,
+        list: &SgList,
+    ) {
+        let managed = &self.maps[self.managed(h)];
+        if to_managed {
+            sg_copy(ground, own, managed, list);
+        } else {
+            sg_copy(ground, managed, own, list);
+        }
+        self.note(h, to_managed, list);
     }
 }

@@ -1,6 +1,6 @@
 //! A system of partitions.
 
-ghost use Rattle.std.specs.Prelude.{◌≡◌, ℕ, ◌+◌, ◌<◌, ◌≤◌, List, min, None, Some, length, take, IfOk};
+ghost use Rattle.std.specs.Prelude.{◌≡◌, ℕ, ◌+◌, ◌<◌, ◌≤◌, List, min, Some, length, take, IfOk};
 ghost use Rattle.machine_desc.specs.Joined.{AreJoined};
 ghost use Rattle.outside.specs.Pieces.{Writes};
 ghost use Rattle.partition.specs.Act.{act_of};
@@ -32,8 +32,8 @@ use partition::Partition;
 use std::alloc::Global;
 use std::marker::Model;
 
-/// Partitions over one real memory, with the channels and consoles that join them. Contracts see the network that they are,
-/// the world that it is in, and the step that ended the run, if one did. Only `build` takes memory.
+/// Partitions over one real memory, with the channels and consoles that join them. Contracts see the network that they are
+/// and the world that it is in. Only `build` takes memory.
 #[derive(Drop)]
 pub struct System {
     parts: Vec<Partition>,
@@ -41,7 +41,6 @@ pub struct System {
     board: Board,
     wiring: Wiring,
     counts: Vec<Counts>,
-    unbuilt: Option<u64>,
     /// By physical number, the partition whose core it is.
     owners: Vec<Option<usize>>,
 }
@@ -58,7 +57,6 @@ impl Model for System {
       lines = system.board;
       wiring = system.wiring;
       counts = system.counts.items;
-      unbuilt = system.unbuilt;
     }) };
 
     ghost invariant = { λ system. IsSystem (record {
@@ -67,7 +65,6 @@ impl Model for System {
       lines = system.board;
       wiring = system.wiring;
       counts = system.counts.items;
-      unbuilt = system.unbuilt;
     }) × AreOwners system.owners.items (descs_of system.parts.items) };
 }
 
@@ -81,7 +78,6 @@ impl System {
         ensures opening { IfOk result (λ system. system ≡ record {
           network = record { descs = descs.items; wiring = wiring };
           world = opening_world (record { descs = descs.items; wiring = wiring });
-          unbuilt = None;
         }) }
     {
         let board = Board::new(alloc, descs.as_slice(), &wiring)?;
@@ -95,7 +91,6 @@ impl System {
             board,
             wiring,
             counts,
-            unbuilt: None,
             owners,
         })
     }
@@ -115,10 +110,8 @@ impl System {
     /// done all the same.
     pub fn turn<S: Sink>(&mut self, core: u32, show: Show, out: &mut S) -> Result<(), Failed>
         requires few { (part : ℕ) → (machine_at self.old.world.machines part).inner.steps < most_steps }
-        requires going { self.old.unbuilt ≡ None }
         ensures network { self.new.network ≡ self.old.network }
         ensures world { self.new.world ≡ (core_turn self.old.network (Some core) self.old.world).after }
-        ensures unbuilt { self.new.unbuilt ≡ (core_turn self.old.network (Some core) self.old.world).unbuilt }
         ensures lines { Writes result (S.taken out.old) (S.taken out.new) (S.faults out.old) (S.faults out.new)
             (shown show self.old.network (core_turn self.old.network (Some core) self.old.world).lines) }
         ensures counted { (part : ℕ) → (machine_at self.new.world.machines part).inner.steps ≤ (machine_at self.old.world.machines part).inner.steps + 1 }
@@ -163,20 +156,11 @@ impl System {
         all_rest(self.parts.as_slice())
     }
 
-    /// The step that ended the run, by its number among its partition's own, since it isn't built.
-    pub fn not_built(&self) -> Option<u64>
-        ensures { result ≡ self.now.unbuilt }
-    {
-        self.unbuilt
-    }
-
     /// The turn of a core, as `turn` does it. Answers what the step did, if there was one.
     fn turn_of(&mut self, number: u32) -> Option<Deed>
         requires few { (part : ℕ) → (machine_at self.old.world.machines part).inner.steps < most_steps }
-        requires going { self.old.unbuilt ≡ None }
         ensures network { self.new.network ≡ self.old.network }
         ensures world { self.new.world ≡ (core_turn self.old.network (Some number) self.old.world).after }
-        ensures unbuilt { self.new.unbuilt ≡ (core_turn self.old.network (Some number) self.old.world).unbuilt }
         ensures deed { IsDeedOf (length self.old.network.descs) result }
         ensures line { deed_line self.old.network.descs result ≡ act_lines self.old.network (core_turn self.old.network (Some number) self.old.world).lines }
         ensures counted { (part : ℕ) → (machine_at self.new.world.machines part).inner.steps ≤ (machine_at self.old.world.machines part).inner.steps + 1 }
@@ -195,10 +179,8 @@ impl System {
         requires running { (machine_at self.old.world.machines part).inner.state ≡ State.Running }
         requires core { core < length (machine_at self.old.world.machines part).inner.cores }
         requires few { (machine_at self.old.world.machines part).inner.steps < most_steps }
-        requires going { self.old.unbuilt ≡ None }
         ensures network { self.new.network ≡ self.old.network }
         ensures world { self.new.world ≡ (steps_in self.old.network part core self.old.world).after }
-        ensures unbuilt { self.new.unbuilt ≡ (steps_in self.old.network part core self.old.world).unbuilt }
         ensures part { result.part ≡ part }
         ensures line { deed_line self.old.network.descs (Some result) ≡ act_lines self.old.network (steps_in self.old.network part core self.old.world).lines }
         ensures counted { (part : ℕ) → (machine_at self.new.world.machines part).inner.steps ≤ (machine_at self.old.world.machines part).inner.steps + 1 }
@@ -210,7 +192,6 @@ impl System {
             &mut self.memory,
             &mut self.board,
             &mut self.counts,
-            &mut self.unbuilt,
             &self.wiring,
             core,
         );

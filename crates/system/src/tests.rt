@@ -1,7 +1,7 @@
 //! What no clause says: that a board and a system are made where memory is ample, and that a turn is done where its line
 //! isn't taken.
 
-ghost use Rattle.std.specs.Prelude.{◌≡◌, ℕ, ◌<◌, length, IfOk, IfSome, None};
+ghost use Rattle.std.specs.Prelude.{◌≡◌, ℕ, ◌<◌, length, IfOk, IfSome};
 ghost use Rattle.partition.specs.Machine.{most_steps};
 ghost use Rattle.network.specs.World.{machine_at};
 ghost use Rattle.system.specs.System.{HaveOneCore};
@@ -103,7 +103,6 @@ fn partitions(alloc: Global) -> Result<Vec<Desc>, NoMemory>
 fn system(alloc: Global, descs: Vec<Desc>, wiring: Wiring) -> Result<Option<System>, NoMemory>
     requires cores { HaveOneCore descs.items }
     requires some { 0 < length descs.items }
-    ensures going { IfOk result (λ made. IfSome made (λ system. system.unbuilt ≡ None)) }
     ensures some { IfOk result (λ made. IfSome made (λ system. 0 < length system.network.descs)) }
     ensures few { IfOk result (λ made. IfSome made (λ system. (part : ℕ) → (machine_at system.world.machines part).inner.steps < most_steps)) }
 {
@@ -125,7 +124,6 @@ struct Outcome {
 /// Does the turn, if the system is there.
 fn turned(system: &mut System, out: &mut MemSink) -> Outcome
     requires few { (part : ℕ) → (machine_at system.old.world.machines part).inner.steps < most_steps }
-    requires going { system.old.unbuilt ≡ None }
     requires part { 0 < length system.old.network.descs }
 {
     let done = system.turn(0, Show::Acts, out).is_ok();

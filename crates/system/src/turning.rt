@@ -1,6 +1,6 @@
 //! The parts of a turn.
 
-ghost use Rattle.std.specs.Prelude.{◌≡◌, ℕ, ◌%◌, ◌<◌, ◌≤◌, true, false, None, Some, length, slice_set};
+ghost use Rattle.std.specs.Prelude.{◌≡◌, ℕ, ◌%◌, ◌<◌, ◌≤◌, true, false, Some, length, slice_set};
 ghost use Rattle.core_step.specs.declared.answer.Wrote.{Wrote as WroteValue};
 ghost use Rattle.fresh_load.specs.Placed.{ArePlaced};
 ghost use Rattle.partition.specs.Port.{kinds_of, kind_at};
@@ -8,10 +8,11 @@ ghost use Rattle.partition.specs.Event.{Start, Restart};
 ghost use Rattle.network.specs.Network.{far_end};
 ghost use Rattle.network.specs.World.{counts_at};
 ghost use Rattle.network.specs.Effects.{count_printed};
+ghost use Rattle.partition.specs.Lending.{AreTold};
 ghost use Rattle.partition.specs.Machine.{most_steps};
-ghost use Rattle.system.specs.Board.{emptied_lines, own_kinds, own_wire};
+ghost use Rattle.system.specs.Board.{emptied_lines, managed_by, own_kinds, own_wire, told_by};
 ghost use Rattle.system.specs.System.{part_at, most_counted, IsSystem};
-ghost use Rattle.system.specs.Turning.{AfterStep, AreAllPlaced, Asks, Begins, Follows, Hears, HasConsole, Settles, Turns, held_of, managed_by, marked_lines, printed_lines, stopped_part};
+ghost use Rattle.system.specs.Turning.{AfterCopy, AreAllPlaced, Asks, Begins, Follows, Hears, HasConsole, Settles, Turns, copied_part, held_of, marked_lines, printed_lines, stopped_part};
 
 use crate::board::Board;
 use crate::counts::Counts;
@@ -37,7 +38,8 @@ pub fn step_part(
     requires few { (part_at parts.old.items who).inner.steps < most_steps }
     requires placed { ArePlaced memory.old (part_at parts.old.items who).desc.regions }
     requires kinds { own_kinds board.old ≡ kinds_of (part_at parts.old.items who).desc.ports }
-    ensures { AfterStep parts.old.items parts.new.items memory.old memory.new board.old board.new core result.act result.shared.items }
+    requires told { AreTold (told_by board.old) (part_at parts.old.items who).desc memory.old }
+    ensures { AfterCopy parts.old.items parts.new.items memory.old memory.new board.old board.new core result.act result.shared.items }
 {
     let part = &mut parts[who];
     part.step(core, memory, board)
@@ -128,6 +130,17 @@ fn stop_managed(parts: &mut Vec<Partition>, board: &mut Board, handle: u32)
     board.mark(managed, false);
 }
 
+/// A partition hears of what was copied last, which a handle manages.
+fn tell_copied(parts: &mut Vec<Partition>, board: &Board, handle: u32)
+    requires parts { length parts.old.items ≡ length board.now.wires }
+    requires manages { kind_at (own_kinds board.now) handle ≡ Some Kind.Manage }
+    ensures { parts.new.items ≡ slice_set parts.old.items (managed_by (own_wire board.now handle))
+        (copied_part board.now.last.entries (part_at parts.old.items (managed_by (own_wire board.now handle)))) }
+{
+    let managed = board.managed(handle);
+    parts[managed].copied(board.list());
+}
+
 /// What others than the stepping partition get of its act.
 pub fn settle(
     parts: &mut Vec<Partition>,
@@ -153,6 +166,7 @@ pub fn settle(
         Act::Start { h, entry, load } => start_managed(parts, memory, board, *h, *entry, *load),
         Act::Stop { h } => stop_managed(parts, board, *h),
         Act::Restart { h } => restart_managed(parts, memory, board, *h),
+        Act::CopyTo { h, .. } => tell_copied(parts, board, *h),
         Act::SelfRestart => board.empty(part),
         Act::SelfStop | Act::Faulted => board.mark(part, false),
         _ => {}
@@ -176,38 +190,33 @@ fn follow(
     settle(parts, memory, board, counts, wiring, act);
 }
 
-/// A step of a core of the partition that the board is lent to, and all that it brings. A step that isn't built is noted.
+/// A step of a core of the partition that the board is lent to, and all that it brings.
 pub fn step_all(
     parts: &mut Vec<Partition>,
     memory: &mut Ground,
     board: &mut Board,
     counts: &mut Vec<Counts>,
-    unbuilt: &mut Option<u64>,
     wiring: &Wiring,
     core: usize,
 ) -> Act
-    requires system { IsSystem (held_of parts.old.items memory.old board.old wiring.now counts.old.items unbuilt.old) }
+    requires system { IsSystem (held_of parts.old.items memory.old board.old wiring.now counts.old.items) }
     requires who { board.old.who < length parts.old.items }
     requires core { core < length (part_at parts.old.items board.old.who).inner.cores }
     requires running { (part_at parts.old.items board.old.who).inner.state ≡ State.Running }
     requires few { (part_at parts.old.items board.old.who).inner.steps < most_steps }
-    requires going { unbuilt.old ≡ None }
-    ensures { Turns (held_of parts.old.items memory.old board.old wiring.now counts.old.items unbuilt.old)
-        (held_of parts.new.items memory.new board.new wiring.now counts.new.items unbuilt.new) core result }
+    ensures { Turns (held_of parts.old.items memory.old board.old wiring.now counts.old.items)
+        (held_of parts.new.items memory.new board.new wiring.now counts.new.items) core result }
 {
     let who = board.who();
     let Acts { act, shared } = step_part(parts, memory, board, who, core);
-    match act {
-        Act::NotBuilt => *unbuilt = Some(parts[who].steps() + 1),
-        _ => follow(
-            parts,
-            memory,
-            board,
-            counts,
-            wiring,
-            &act,
-            shared.as_slice(),
-        ),
-    }
+    follow(
+        parts,
+        memory,
+        board,
+        counts,
+        wiring,
+        &act,
+        shared.as_slice(),
+    );
     act
 }

@@ -1,15 +1,17 @@
 //! What the handles of partitions lead to, by their wiring.
 
-ghost use Rattle.std.specs.Prelude.{◌≡◌, ◌≤◌, List, length, map, replicate, IfOk};
-ghost use Rattle.std.specs.List.{list_any, position, range_with_len};
+ghost use Rattle.std.specs.Prelude.{◌≡◌, ◌≤◌, true, List, length, map, replicate, IfOk};
+ghost use Rattle.std.specs.List.{list_all, list_any, position, range_with_len};
 ghost use Rattle.byte_channel.specs.Waiting.{empty_channel};
 ghost use Rattle.machine_desc.specs.Joined as joined;
+ghost use Rattle.machine_desc.specs.Sound.{is_sound};
 ghost use Rattle.network.specs.Network as network;
 ghost use Rattle.system.specs.Wired as spec;
 
 use crate::wire::{ChannelEnd, Wire};
 use byte_channel::{Channel, Side};
 use machine_desc::{Bell, Desc, End, Link, Port, PortRef, Wiring};
+use memory_areas::AreaMap;
 use outside::{Listed, NoMemory};
 use std::alloc::Global;
 
@@ -199,4 +201,16 @@ pub fn beginnings(alloc: Global, descs: &[Desc]) -> Result<Vec<bool>, NoMemory>
         running.push(!desc.held)?;
     }
     Ok(running)
+}
+
+/// The map of each partition's regions.
+pub fn all_maps(alloc: Global, descs: &[Desc]) -> Result<Vec<AreaMap>, NoMemory>
+    requires { list_all is_sound descs.now ≡ true }
+    ensures { IfOk result (λ maps. maps.items ≡ map spec.regions_of descs.now) }
+{
+    let mut maps = Vec::with_capacity(alloc, descs.len())?;
+    for desc in descs {
+        maps.push(AreaMap::new(alloc, desc)?)?;
+    }
+    Ok(maps)
 }

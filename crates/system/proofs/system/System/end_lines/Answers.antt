@@ -11,7 +11,7 @@ use Rattle.system.proofs.system.System.end_lines.Goals as goal
 
 pub returns-in_err-write_parts : goal.returns-in_err-write_parts
 returns-in_err-write_parts g c given waits =
-    let held : Held = held_of c.self.inside.parts.items c.self.inside.memory c.self.inside.board c.self.inside.wiring c.self.inside.counts.items c.self.inside.unbuilt in
+    let held : Held = held_of c.self.inside.parts.items c.self.inside.memory c.self.inside.board c.self.inside.wiring c.self.inside.counts.items in
     let sink = g.S.Sink in
     let wrote = c.in_err-write_parts.ensures in
     let rest : List ℕ = console_lines held.wiring.consoles held.counts c.args.waiting.now in
@@ -23,7 +23,7 @@ returns-in_err-write_parts g c given waits =
 
 pub returns : goal.returns
 returns g c given waits =
-    let held : Held = held_of c.self.inside.parts.items c.self.inside.memory c.self.inside.board c.self.inside.wiring c.self.inside.counts.items c.self.inside.unbuilt in
+    let held : Held = held_of c.self.inside.parts.items c.self.inside.memory c.self.inside.board c.self.inside.wiring c.self.inside.counts.items in
     let sink = g.S.Sink in
     let wrote = c.in_ok-write_parts.ensures in
     let rest : List ℕ = console_lines c.as_slice-names.result.now c.as_slice-2.result.now c.args.waiting.now in

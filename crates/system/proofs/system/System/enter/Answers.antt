@@ -13,7 +13,6 @@ enter_at-requires-clause-console c =
       lines = c.self.inside.board;
       wiring = c.self.inside.wiring;
       counts = c.self.inside.counts.items;
-      unbuilt = c.self.inside.unbuilt;
     } in
     let here : c.args.console < length held.wiring.consoles = subst (λ (now : Snapshot). c.args.console < length now.network.wiring.consoles) (sym c.self.view_is) c.requires.console in
     let long = consoles_long held c.self.invariant.0 in
@@ -27,7 +26,6 @@ enter_at-requires-clause-few c =
       lines = c.self.inside.board;
       wiring = c.self.inside.wiring;
       counts = c.self.inside.counts.items;
-      unbuilt = c.self.inside.unbuilt;
     } in
     (small_counts held c.self.invariant.0).entered c.args.console
 
@@ -39,7 +37,6 @@ invariant_of-self c =
       lines = c.self.inside.board;
       wiring = c.self.inside.wiring;
       counts = c.self.inside.counts.items;
-      unbuilt = c.self.inside.unbuilt;
     } in
     let here : c.args.console < length held.wiring.consoles = subst (λ (now : Snapshot). c.args.console < length now.network.wiring.consoles) (sym c.self.view_is) c.requires.console in
     ((entered_from held c.args.console c.enter_at.result c.args.bytes.now c.enter_at.new.board c.enter_at.new.counts.items c.self.invariant.0 here c.enter_at.ensures.count c.enter_at.ensures.board c.enter_at.ensures.counts).kept, c.self.invariant.1)
@@ -52,7 +49,6 @@ returns-clause-entered c =
       lines = c.self.inside.board;
       wiring = c.self.inside.wiring;
       counts = c.self.inside.counts.items;
-      unbuilt = c.self.inside.unbuilt;
     } in
     let here : c.args.console < length held.wiring.consoles = subst (λ (now : Snapshot). c.args.console < length now.network.wiring.consoles) (sym c.self.view_is) c.requires.console in
     (entered_from held c.args.console c.enter_at.result c.args.bytes.now c.enter_at.new.board c.enter_at.new.counts.items c.self.invariant.0 here c.enter_at.ensures.count c.enter_at.ensures.board c.enter_at.ensures.counts).view

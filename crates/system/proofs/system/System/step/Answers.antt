@@ -15,38 +15,32 @@ use Rattle.system.proofs.system.System.step.Goals as goal
 
 pub step_all-act-requires-clause-core : goal.step_all-act-requires-clause-core
 step_all-act-requires-clause-core c =
-    let held : Held = held_of c.self.inside.parts.items c.self.inside.memory c.self.inside.board c.self.inside.wiring c.self.inside.counts.items c.self.inside.unbuilt in
+    let held : Held = held_of c.self.inside.parts.items c.self.inside.memory c.self.inside.board c.self.inside.wiring c.self.inside.counts.items in
     subst (λ (inner : Inner). c.args.core < length inner.cores)
     (inner_there held c.args.self.now c.args.part c.lend_to.new.self.who c.self.view_is c.requires.part (ap (λ (ls : Lines). ls.who) c.lend_to.ensures)) c.requires.core
 
 pub step_all-act-requires-clause-running : goal.step_all-act-requires-clause-running
 step_all-act-requires-clause-running c =
-    let held : Held = held_of c.self.inside.parts.items c.self.inside.memory c.self.inside.board c.self.inside.wiring c.self.inside.counts.items c.self.inside.unbuilt in
+    let held : Held = held_of c.self.inside.parts.items c.self.inside.memory c.self.inside.board c.self.inside.wiring c.self.inside.counts.items in
     subst (λ (inner : Inner). inner.state ≡ Running)
     (inner_there held c.args.self.now c.args.part c.lend_to.new.self.who c.self.view_is c.requires.part (ap (λ (ls : Lines). ls.who) c.lend_to.ensures)) c.requires.running
 
 pub step_all-act-requires-clause-few : goal.step_all-act-requires-clause-few
 step_all-act-requires-clause-few c =
-    let held : Held = held_of c.self.inside.parts.items c.self.inside.memory c.self.inside.board c.self.inside.wiring c.self.inside.counts.items c.self.inside.unbuilt in
+    let held : Held = held_of c.self.inside.parts.items c.self.inside.memory c.self.inside.board c.self.inside.wiring c.self.inside.counts.items in
     subst (λ (inner : Inner). inner.steps < most_steps)
     (inner_there held c.args.self.now c.args.part c.lend_to.new.self.who c.self.view_is c.requires.part (ap (λ (ls : Lines). ls.who) c.lend_to.ensures)) c.requires.few
 
 pub returns-clause-world : goal.returns-clause-world
 returns-clause-world c =
-    let held : Held = held_of c.self.inside.parts.items c.self.inside.memory c.self.inside.board c.self.inside.wiring c.self.inside.counts.items c.self.inside.unbuilt in
-    let new : Held = held_of c.step_all-act.new.parts.items c.step_all-act.new.memory c.step_all-act.new.board c.self.inside.wiring c.step_all-act.new.counts.items c.step_all-act.new.unbuilt in
+    let held : Held = held_of c.self.inside.parts.items c.self.inside.memory c.self.inside.board c.self.inside.wiring c.self.inside.counts.items in
+    let new : Held = held_of c.step_all-act.new.parts.items c.step_all-act.new.memory c.step_all-act.new.board c.self.inside.wiring c.step_all-act.new.counts.items in
     (turned_as held new c.args.self.now c.lend_to.new.self c.args.part c.args.core c.step_all-act.result c.self.view_is c.lend_to.ensures c.step_all-act.ensures).world
-
-pub returns-clause-unbuilt : goal.returns-clause-unbuilt
-returns-clause-unbuilt c =
-    let held : Held = held_of c.self.inside.parts.items c.self.inside.memory c.self.inside.board c.self.inside.wiring c.self.inside.counts.items c.self.inside.unbuilt in
-    let new : Held = held_of c.step_all-act.new.parts.items c.step_all-act.new.memory c.step_all-act.new.board c.self.inside.wiring c.step_all-act.new.counts.items c.step_all-act.new.unbuilt in
-    (turned_as held new c.args.self.now c.lend_to.new.self c.args.part c.args.core c.step_all-act.result c.self.view_is c.lend_to.ensures c.step_all-act.ensures).unbuilt
 
 pub returns-clause-line : goal.returns-clause-line
 returns-clause-line c =
-    let held : Held = held_of c.self.inside.parts.items c.self.inside.memory c.self.inside.board c.self.inside.wiring c.self.inside.counts.items c.self.inside.unbuilt in
-    let new : Held = held_of c.step_all-act.new.parts.items c.step_all-act.new.memory c.step_all-act.new.board c.self.inside.wiring c.step_all-act.new.counts.items c.step_all-act.new.unbuilt in
+    let held : Held = held_of c.self.inside.parts.items c.self.inside.memory c.self.inside.board c.self.inside.wiring c.self.inside.counts.items in
+    let new : Held = held_of c.step_all-act.new.parts.items c.step_all-act.new.memory c.step_all-act.new.board c.self.inside.wiring c.step_all-act.new.counts.items in
     let now : Snapshot = c.args.self.now in
     let inner = inner_there held now c.args.part c.args.part c.self.view_is c.requires.part refl in
     let within = there_in held now c.args.part c.self.view_is c.requires.part in
@@ -57,6 +51,6 @@ returns-clause-line c =
 
 pub returns-clause-counted : goal.returns-clause-counted
 returns-clause-counted c =
-    let held : Held = held_of c.self.inside.parts.items c.self.inside.memory c.self.inside.board c.self.inside.wiring c.self.inside.counts.items c.self.inside.unbuilt in
-    let new : Held = held_of c.step_all-act.new.parts.items c.step_all-act.new.memory c.step_all-act.new.board c.self.inside.wiring c.step_all-act.new.counts.items c.step_all-act.new.unbuilt in
+    let held : Held = held_of c.self.inside.parts.items c.self.inside.memory c.self.inside.board c.self.inside.wiring c.self.inside.counts.items in
+    let new : Held = held_of c.step_all-act.new.parts.items c.step_all-act.new.memory c.step_all-act.new.board c.self.inside.wiring c.step_all-act.new.counts.items in
     (turned_as held new c.args.self.now c.lend_to.new.self c.args.part c.args.core c.step_all-act.result c.self.view_is c.lend_to.ensures c.step_all-act.ensures).counted
