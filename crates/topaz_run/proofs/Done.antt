@@ -17,17 +17,18 @@ use Rattle.guest_tree.specs.Guest.{guest_blob}
 use Rattle.network.specs.Network.{Network}
 use Rattle.network.specs.Turn.{Script, given_at, run}
 use Rattle.network.specs.Report.{text_of, report}
-use Rattle.network.specs.Laws.{LinesAreOwn}
+use Rattle.isolation.specs.Laws.{LinesAreItsOwn, RecordingsFit}
 use Rattle.hv_config.specs.Plain.{IsPlain}
 use Rattle.script.specs.Text.{lines_of as lines_in}
 use Rattle.script.specs.Fault.{Broken, first_broken as first_broken_line}
 use Rattle.topaz_run.specs.declared.setup.Setup.{Setup}
 use Rattle.topaz_run.specs.Plan.{Outcome, Done, Plan, opened, refusal, outcome_of}
 use Rattle.topaz_run.specs.Imaging.{imaging, completed, completing, describing, image_fault}
-use Rattle.topaz_run.specs.Reported.{ended_by, reported}
+use Rattle.topaz_run.specs.Reported.{reported}
 use Rattle.topaz_run.specs.Outcome.{ruled, equipped, configured, accepting, following, reporting, names_for, scripted, imaged, running}
 use Rattle.topaz_run.specs.Runs.{bytes_in, setup_in, descs_in, network_in, script_in, IsReport}
-use Rattle.topaz_run.specs.Laws.{AreDescribed, DescribedAreNamed}
+use Rattle.config_rules.specs.Accepted.{IsAccepted}
+use Rattle.topaz_run.specs.Laws.{AreDescribed, DescribedAreJoined, DescribedAreNamed}
 
 -- ---- a file
 
@@ -123,13 +124,9 @@ imaging-done content config (part ∷ parts) done next text e =
 
 -- ---- the script, and the report
 
-ended-done : (unbuilt : Option ℕ) (text other : List ℕ) → ended_by unbuilt text ≡ Done other → other ≡ text
-ended-done None text other e = cc
-ended-done (Some step) text other e = absurd cc
-
 reported-done : (network : Network) (script : Script) (turns : ℕ) (text : List ℕ) → reported network script turns ≡ Done text → text ≡ report network script turns
 unfolding reported
-reported-done network script turns text e = ended-done (run network script turns).unbuilt (text_of network (given_at script turns) (run network script turns)) text e
+reported-done network script turns text e = cc
 
 following-done : (turns : ℕ) (setup : Setup) (descs : List Desc) (lines : List (List ℕ)) (broken : Option Broken) (text : List ℕ) → following turns setup descs lines broken ≡ Done text
     → following turns setup descs lines None ≡ Done text
@@ -163,14 +160,19 @@ run-done content config hw script turns text e =
       is = reported-done (network_in content config hw) (script_in content config hw script) turns text (scripted-done content script turns setup (descs_in content setup.accepted setup.accepted.parts) text images.ends);
     }
 
-pub prints_alone : DescribedAreNamed → LinesAreOwn → (content : Content) (config hw script : List ℕ) (turns : ℕ) (text : List ℕ) → outcome_of content (running config hw script turns) ≡ Done text
+pub prints_alone : DescribedAreNamed → DescribedAreJoined → LinesAreItsOwn → RecordingsFit → (content : Content) (config hw script : List ℕ) (turns : ℕ) (text : List ℕ)
+    → outcome_of content (running config hw script turns) ≡ Done text
     → IsPlain (setup_in content config hw).accepted → IsReport (network_in content config hw) (script_in content config hw script) turns text
-prints_alone named own content config hw script turns text e plain =
+prints_alone named joined own recorded content config hw script turns text e plain =
     let done = run-done content config hw script turns text e in
     let setup = setup_in content config hw in
     let network = network_in content config hw in
+    let course = script_in content config hw script in
+    let accepted : IsAccepted setup.accepted = record { board = setup.board; none = done.none; plain = plain } in
     record {
       is = done.is;
-      alone = λ part few private. own network (script_in content config hw script) turns part
-          (named setup.accepted (record { board = setup.board; none = done.none; plain = plain }) network.descs done.described) few private;
+      alone = λ part few private. record {
+        fit = recorded network course turns part (joined setup.accepted accepted network.descs done.described) few private;
+        lines = own network course turns part (named setup.accepted accepted network.descs done.described) few private;
+      };
     }

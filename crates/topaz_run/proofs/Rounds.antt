@@ -1,6 +1,6 @@
 -- How a run goes on: console by console, and turn by turn.
 use Rattle.std.proofs.Common.{◌≡◌, ℕ, zero, suc, ◌+◌, ◌-◌, ◌<◌, ◌≤◌, Bool, true, false, List, [], ◌∷◌, ◌++◌, length, map, drop, nat_lt, Option, Some, None, refl, sym, ap, subst, ◌∙◌, arith}
-use Rattle.std.specs.Prelude.{◌==◌, is_some, slice_index_or, Ok, nat_le, filter, flat_map, unwrap_or, if◌then◌else◌}
+use Rattle.std.specs.Prelude.{◌==◌, slice_index_or, Ok, nat_le, filter, flat_map, unwrap_or, if◌then◌else◌}
 use Rattle.std.proofs.lemmas.Option.{slice_get_past}
 use Rattle.std.proofs.lemmas.List.{append_assoc, append-nil, drop_all, length-append, get_or_append_left}
 use Rattle.std.proofs.Math.Seq.{get_or-append_seam}
@@ -14,7 +14,7 @@ use Rattle.machine_desc.specs.declared.wiring.End.{End}
 use Rattle.machine_desc.specs.declared.wiring.End.TheVariants.{Part, Console}
 use Rattle.partition.specs.Machine.{fresh, most_steps}
 use Rattle.network.specs.Network.{Network, desc_at, far_end}
-use Rattle.network.specs.World.{World, Line, Passage, passed, then_unless, and_then, counts_at, machine_at, opening_world}
+use Rattle.network.specs.World.{World, Line, Passage, passed, and_then, counts_at, machine_at, opening_world}
 use Rattle.network.specs.Entering.{enter, entered_at, enter_all, waiting}
 use Rattle.network.specs.Turn.{Script, given_at, core_in, core_turn, turn, turns_from, run}
 use Rattle.network.specs.Report.{act_lines, traced_line}
@@ -23,54 +23,27 @@ use Rattle.topaz_run.specs.Turns.{AllEntered, StepsAtMost}
 
 -- ---- consoles
 
--- nothing ends there, and nothing has a line
-record IsQuiet (done : Passage) : Type 0 where
-  lines : done.lines ≡ []
-  unbuilt : done.unbuilt ≡ None
+-- nothing has a line there
+at-quiet : (network : Network) (end : Option End) (console : ℕ) (bytes : List ℕ) (world : World) → (entered_at network end console bytes world).lines ≡ []
+at-quiet network None console bytes world = refl
+at-quiet network (Some (Console other)) console bytes world = refl
+at-quiet network (Some (Part ref)) console bytes world = refl
 
-at-quiet : (network : Network) (end : Option End) (console : ℕ) (bytes : List ℕ) (world : World) → IsQuiet (entered_at network end console bytes world)
-at-quiet network None console bytes world = record { lines = refl; unbuilt = refl }
-at-quiet network (Some (Console other)) console bytes world = record { lines = refl; unbuilt = refl }
-at-quiet network (Some (Part ref)) console bytes world = record { lines = refl; unbuilt = refl }
-
-enter-quiet : (network : Network) (console : ℕ) (bytes : List ℕ) (world : World) → IsQuiet (enter network console bytes world)
+enter-quiet : (network : Network) (console : ℕ) (bytes : List ℕ) (world : World) → (enter network console bytes world).lines ≡ []
 unfolding enter
 enter-quiet network console bytes world = at-quiet network (far_end network.wiring.links (Console console)) console bytes world
 
--- what comes behind it is all that is to be told
-record Follows (first : Passage) (rest : World → Passage) : Type 0 where
-  after : (and_then first rest).after ≡ (rest first.after).after
-  lines : (and_then first rest).lines ≡ (rest first.after).lines
-  unbuilt : (and_then first rest).unbuilt ≡ (rest first.after).unbuilt
-
-by-quiet : (first : Passage) (rest : World → Passage) (unbuilt : Option ℕ) → first.unbuilt ≡ unbuilt → unbuilt ≡ None → first.lines ≡ [] → Follows first rest
-by-quiet first rest (Some step) is none lines = absurd cc
-by-quiet first rest None is none lines =
-    let whole : and_then first rest ≡ then_unless None first rest = ap (λ (u : Option ℕ). then_unless u first rest) is in
-    record {
-      after = ap (λ (p : Passage). p.after) whole;
-      lines = ap (λ (p : Passage). p.lines) whole ∙ ap (λ (l : List Line). l ++ (rest first.after).lines) lines;
-      unbuilt = ap (λ (p : Passage). p.unbuilt) whole;
-    }
-
-follows : (first : Passage) (rest : World → Passage) → IsQuiet first → Follows first rest
-follows first rest quiet = by-quiet first rest first.unbuilt refl quiet.unbuilt quiet.lines
-
-all-quiet : (network : Network) (given : ℕ → List ℕ) (console more : ℕ) (world : World) → IsQuiet (enter_all network given console more world)
-all-quiet network given console zero world = record { lines = refl; unbuilt = refl }
+all-quiet : (network : Network) (given : ℕ → List ℕ) (console more : ℕ) (world : World) → (enter_all network given console more world).lines ≡ []
+all-quiet network given console zero world = refl
 all-quiet network given console (suc more) world =
-    let first = enter network console (waiting (given console) world.consoles console) world in
-    let rest : World → Passage = enter_all network given (console + 1) more in
-    let one = follows first rest (enter-quiet network console (waiting (given console) world.consoles console) world) in
-    let others = all-quiet network given (console + 1) more first.after in
-    record { lines = one.lines ∙ others.lines; unbuilt = one.unbuilt ∙ others.unbuilt }
+    let bytes : List ℕ = waiting (given console) world.consoles console in
+    let rest : List Line = (enter_all network given (console + 1) more (enter network console bytes world).after).lines in
+    ap (λ (l : List Line). l ++ rest) (enter-quiet network console bytes world) ∙ all-quiet network given (console + 1) more (enter network console bytes world).after
 
 pub enters-next : (network : Network) (given : ℕ → List ℕ) (console more : ℕ) (world : World)
     → (enter_all network given console (suc more) world).after
     ≡ (enter_all network given (console + 1) more (enter network console (waiting (given console) world.consoles console) world).after).after
-enters-next network given console more world =
-    (follows (enter network console (waiting (given console) world.consoles console) world) (enter_all network given (console + 1) more)
-    (enter-quiet network console (waiting (given console) world.consoles console) world)).after
+enters-next network given console more world = refl
 
 -- the consoles from this one on
 pub enters_next : (network : Network) (given : ℕ → List ℕ) (console count : ℕ) (world : World) → console < count
@@ -78,7 +51,7 @@ pub enters_next : (network : Network) (given : ℕ → List ℕ) (console count 
     ≡ (enter_all network given (console + 1) (count - (console + 1)) (enter network console (waiting (given console) world.consoles console) world).after).after
 enters_next network given console count world few =
     let one : count - console ≡ suc (count - (console + 1)) = omega (arith, few) in
-    ap (λ (more : ℕ). (enter_all network given console more world).after) one ∙ enters-next network given console (count - (console + 1)) world
+    ap (λ (more : ℕ). (enter_all network given console more world).after) one
 
 -- ---- a turn
 
@@ -86,21 +59,21 @@ enters_next network given console count world few =
 pub record IsTurnOf (core whole : Passage) : Type 0 where
   pub after : core.after ≡ whole.after
   pub lines : core.lines ≡ whole.lines
-  pub unbuilt : core.unbuilt ≡ whole.unbuilt
 
 -- what a turn is, once the consoles' bytes have entered
 pub record IsTurn (network : Network) (script : Script) (number : ℕ) (world entered : World) : Type 0 where
   pub after : (turn network script number world).after ≡ (core_turn network (core_in script.schedule number) entered).after
   pub lines : (turn network script number world).lines ≡ (core_turn network (core_in script.schedule number) entered).lines
-  pub unbuilt : (turn network script number world).unbuilt ≡ (core_turn network (core_in script.schedule number) entered).unbuilt
 
 turn-behind : (network : Network) (script : Script) (number : ℕ) (world : World)
     → IsTurn network script number world (enter_all network (given_at script number) 0 (length network.wiring.consoles) world).after
 unfolding turn
 turn-behind network script number world =
-    let whole = follows (enter_all network (given_at script number) 0 (length network.wiring.consoles) world) (core_turn network (core_in script.schedule number))
-    (all-quiet network (given_at script number) 0 (length network.wiring.consoles) world) in
-    record { after = whole.after; lines = whole.lines; unbuilt = whole.unbuilt }
+    let entered : World = (enter_all network (given_at script number) 0 (length network.wiring.consoles) world).after in
+    record {
+      after = refl;
+      lines = ap (λ (l : List Line). l ++ (core_turn network (core_in script.schedule number) entered).lines) (all-quiet network (given_at script number) 0 (length network.wiring.consoles) world);
+    }
 
 pub turn_behind : (network : Network) (script : Script) (number consoles : ℕ) (world entered : World) → length network.wiring.consoles ≡ consoles
     → entered ≡ (enter_all network (given_at script number) 0 consoles world).after → IsTurn network script number world entered
@@ -111,44 +84,14 @@ turn_behind network script number consoles world entered count is =
 
 -- ---- turn after turn
 
-then-passed : (first : Passage) (unbuilt : Option ℕ) → first.unbuilt ≡ unbuilt → then_unless unbuilt first passed ≡ first
-then-passed first (Some step) is = refl
-then-passed first None is = λ i. record {
-  after = first.after;
-  log = append-nil first.log i;
-  lines = append-nil first.lines i;
-  unbuilt = sym is i;
-}
+then-passed : (first : Passage) → and_then first passed ≡ first
+then-passed first = λ i. record { after = first.after; log = append-nil first.log i; lines = append-nil first.lines i }
 
-assoc : (first : Passage) (second third : World → Passage) (one other : Option ℕ) → first.unbuilt ≡ one → (second first.after).unbuilt ≡ other
-    → and_then (and_then first second) third ≡ and_then first (λ world. and_then (second world) third)
-assoc first second third (Some step) other is behind =
-    let left : and_then first second ≡ first = ap (λ (u : Option ℕ). then_unless u first second) is in
-    let right : and_then first (λ world. and_then (second world) third) ≡ first = ap (λ (u : Option ℕ). then_unless u first (λ world. and_then (second world) third)) is in
-    ap (λ (p : Passage). and_then p third) left ∙ ap (λ (u : Option ℕ). then_unless u first third) is ∙ sym right
-assoc first second third None (Some step) is behind =
-    let left : and_then first second ≡ then_unless None first second = ap (λ (u : Option ℕ). then_unless u first second) is in
-    let right : and_then first (λ world. and_then (second world) third) ≡ then_unless None first (λ world. and_then (second world) third) =
-    ap (λ (u : Option ℕ). then_unless u first (λ world. and_then (second world) third)) is in
-    let inner : and_then (second first.after) third ≡ second first.after = ap (λ (u : Option ℕ). then_unless u (second first.after) third) behind in
-    ap (λ (p : Passage). and_then p third) left
-    ∙ ap (λ (u : Option ℕ). then_unless u (then_unless None first second) third) behind
-    ∙ sym (right ∙ ap (λ (p : Passage). record { after = p.after; log = first.log ++ p.log; lines = first.lines ++ p.lines; unbuilt = p.unbuilt }) inner)
-assoc first second third None None is behind =
-    let left : and_then first second ≡ then_unless None first second = ap (λ (u : Option ℕ). then_unless u first second) is in
-    let right : and_then first (λ world. and_then (second world) third) ≡ then_unless None first (λ world. and_then (second world) third) =
-    ap (λ (u : Option ℕ). then_unless u first (λ world. and_then (second world) third)) is in
-    let inner : and_then (second first.after) third ≡ then_unless None (second first.after) third = ap (λ (u : Option ℕ). then_unless u (second first.after) third) behind in
-    let last : Passage = third (second first.after).after in
-    ap (λ (p : Passage). and_then p third) left
-    ∙ ap (λ (u : Option ℕ). then_unless u (then_unless None first second) third) behind
-    ∙ (λ i. record {
-      after = last.after;
-      log = append_assoc first.log (second first.after).log last.log i;
-      lines = append_assoc first.lines (second first.after).lines last.lines i;
-      unbuilt = last.unbuilt;
-    })
-    ∙ sym (right ∙ ap (λ (p : Passage). record { after = p.after; log = first.log ++ p.log; lines = first.lines ++ p.lines; unbuilt = p.unbuilt }) inner)
+assoc : (first : Passage) (second third : World → Passage) → and_then (and_then first second) third ≡ and_then first (λ world. and_then (second world) third)
+assoc first second third =
+    let middle : Passage = second first.after in
+    let last : Passage = third middle.after in
+    λ i. record { after = last.after; log = append_assoc first.log middle.log last.log i; lines = append_assoc first.lines middle.lines last.lines i }
 
 -- so many turns are those of a first part, and then the others
 split : (network : Network) (script : Script) (number first more : ℕ) (world : World)
@@ -166,17 +109,15 @@ split network script number (suc first) more world =
     let behind : (w : World) → turns_from network script (number + 1) (more + first) w ≡ and_then (front w) back =
     λ w. split network script (number + 1) first more w ∙ ap (λ (n : ℕ). and_then (front w) (turns_from network script n more)) same in
     ap (λ (n : ℕ). turns_from network script number n world) count
-    ∙ (λ i. and_then here (λ w. behind w i)) ∙ sym (assoc here front back here.unbuilt (front here.after).unbuilt refl refl)
+    ∙ (λ i. and_then here (λ w. behind w i)) ∙ sym (assoc here front back)
 
 -- one turn more
 one-turn : (network : Network) (script : Script) (number : ℕ) (world : World) → turns_from network script number 1 world ≡ turn network script number world
-one-turn network script number world =
-    let here = turn network script number world in then-passed here here.unbuilt refl
+one-turn network script number world = then-passed (turn network script number world)
 
 pub record GoesOn (network : Network) (script : Script) (done : ℕ) (world : World) : Type 0 where
   pub after : (run network script (done + 1)).after ≡ (turn network script (done + 1) world).after
   pub lines : act_lines network (run network script (done + 1)).lines ≡ act_lines network (run network script done).lines ++ act_lines network (turn network script (done + 1) world).lines
-  pub unbuilt : (run network script (done + 1)).unbuilt ≡ (turn network script (done + 1) world).unbuilt
 
 run-more : (network : Network) (script : Script) (done : ℕ) → run network script (done + 1) ≡ and_then (run network script done) (turn network script (done + 1))
 unfolding run
@@ -190,33 +131,19 @@ run-more network script done =
 lines-append : (network : Network) (lines more : List Line) → act_lines network (lines ++ more) ≡ act_lines network lines ++ act_lines network more
 lines-append network lines more = flat_map-append (λ (line : Line). traced_line (desc_at network line.part).name line.traced) lines more
 
--- where the turns so far are built
-pub goes_on : (network : Network) (script : Script) (done : ℕ) (world : World) → world ≡ (run network script done).after → (run network script done).unbuilt ≡ None
-    → GoesOn network script done world
-goes_on network script done world is none =
+pub goes_on : (network : Network) (script : Script) (done : ℕ) (world : World) → world ≡ (run network script done).after → GoesOn network script done world
+goes_on network script done world is =
     let first = run network script done in
     let next : World → Passage = turn network script (done + 1) in
-    let whole : run network script (done + 1) ≡ then_unless None first next = run-more network script done ∙ ap (λ (u : Option ℕ). then_unless u first next) none in
+    let whole : run network script (done + 1) ≡ and_then first next = run-more network script done in
     let here : next first.after ≡ next world = ap next (sym is) in
     record {
       after = ap (λ (p : Passage). p.after) whole ∙ ap (λ (p : Passage). p.after) here;
       lines = ap (λ (p : Passage). act_lines network p.lines) whole ∙ ap (λ (p : Passage). act_lines network (first.lines ++ p.lines)) here
           ∙ lines-append network first.lines (next world).lines;
-      unbuilt = ap (λ (p : Passage). p.unbuilt) whole ∙ ap (λ (p : Passage). p.unbuilt) here;
     }
 
--- the turns behind a step that isn't built are none
-pub ends_unbuilt : (network : Network) (script : Script) (done turns : ℕ) (step : ℕ) → done ≤ turns → (run network script done).unbuilt ≡ Some step
-    → run network script turns ≡ run network script done
-unfolding run
-ends_unbuilt network script done turns step few is =
-    let first = run network script done in
-    let parts : turns ≡ turns - done + done = omega (arith, few) in
-    ap (λ (n : ℕ). turns_from network script 1 n (opening_world network)) parts
-    ∙ split network script 1 done (turns - done) (opening_world network)
-    ∙ ap (λ (u : Option ℕ). then_unless u first (turns_from network script (1 + done) (turns - done))) is
-
--- nor do turns that pass change anything
+-- turns that pass change nothing
 pub ends_resting : (network : Network) (script : Script) (done turns : ℕ) (world : World) → done ≤ turns → world ≡ (run network script done).after
     → turns_from network script (done + 1) (turns - done) world ≡ passed world → run network script turns ≡ run network script done
 unfolding run
@@ -229,12 +156,7 @@ ends_resting network script done turns world few is rest =
     ap next (sym is) ∙ ap (λ (n : ℕ). turns_from network script n (turns - done) world) next-number ∙ rest ∙ ap passed is in
     ap (λ (n : ℕ). turns_from network script 1 n (opening_world network)) parts
     ∙ split network script 1 done (turns - done) (opening_world network)
-    ∙ behind first next first.unbuilt refl here
-  where
-    behind : (first : Passage) (next : World → Passage) (unbuilt : Option ℕ) → first.unbuilt ≡ unbuilt → next first.after ≡ passed first.after → then_unless unbuilt first next ≡ first
-    behind first next (Some step) is here = refl
-    behind first next None is here =
-        ap (λ (p : Passage). record { after = p.after; log = first.log ++ p.log; lines = first.lines ++ p.lines; unbuilt = p.unbuilt }) here ∙ then-passed first None is
+    ∙ (ap (λ (p : Passage). record { after = p.after; log = first.log ++ p.log; lines = first.lines ++ p.lines }) here ∙ then-passed first)
 
 -- ---- what waits
 
@@ -315,7 +237,6 @@ turned_by network script number consoles before entered whole core count is same
     record {
       after = ap (λ (p : Passage). p.after) here ∙ sym turned.after;
       lines = ap (λ (p : Passage). p.lines) here ∙ sym turned.lines;
-      unbuilt = ap (λ (p : Passage). p.unbuilt) here ∙ sym turned.unbuilt;
     }
 
 pub steps_next : (number : ℕ) (before entered after : World) → StepsAtMost (number - 1) before → 1 ≤ number
@@ -352,15 +273,6 @@ behind_all items n count long each =
     (subst (λ (m : ℕ). slice_index_or (items ++ count n ∷ []) m 0 ≡ count n) long (get_or-append_seam items (count n) [] 0))
 
 -- ---- turn by turn
-
--- a step that ended the run is told
-pub told_step : (unbuilt : Option ℕ) (told : Bool) → told ≡ is_some unbuilt → told ≡ false → unbuilt ≡ None
-told_step None told is e = refl
-told_step (Some step) told is e = absurd cc
-
-pub told_end : (unbuilt : Option ℕ) (told : Bool) → told ≡ is_some unbuilt → told ≡ true → (step : ℕ) × (unbuilt ≡ Some step)
-told_end None told is e = absurd cc
-told_end (Some step) told is e = (step, refl)
 
 pub run_none : (network : Network) (script : Script) → run network script 0 ≡ passed (opening_world network)
 unfolding run

@@ -11,10 +11,11 @@ use Rattle.script.specs.Text.{lines_of as lines_in}
 use Rattle.script.specs.Course.{course_of}
 use Rattle.network.specs.Network.{Network, desc_at}
 use Rattle.network.specs.Change.{are_private}
-use Rattle.network.specs.World.{moves_of}
-use Rattle.network.specs.Turn.{Script, run}
-use Rattle.network.specs.Report.{report, own_text}
+use Rattle.network.specs.Turn.{Script}
+use Rattle.network.specs.Report.{report}
 use Rattle.network.specs.Lines.{lines_of}
+use Rattle.recording.specs.Fits.{fits}
+use Rattle.isolation.specs.Isolation.{record_of, prints}
 use Rattle.topaz_run.specs.declared.setup.Setup.{Setup}
 use Rattle.topaz_run.specs.Words.{Command, Bare, Dtb, Check, Guest, Run}
 use Rattle.topaz_run.specs.Imaging.{completed}
@@ -49,11 +50,11 @@ script_in content config hw script = script_of content (setup_in content config 
 
 -- ---- what is promised of it
 
--- The lines of a partition in the report are what its lone machine prints along the moves that the run gave it.
-abbrev pub PrintsAlone : Network → Script → ℕ → ℕ → Type 0
-PrintsAlone network script turns part =
-    lines_of (desc_at network part).name (report network script turns)
-    ≡ own_text (desc_at network part) (run network script turns).unbuilt (moves_of part (run network script turns).log)
+-- The lines of a partition in the report are what its lone machine prints along its recording of the run, and no item of the recording
+-- is one that its machine could not be given.
+pub record PrintsAlone (network : Network) (script : Script) (turns part : ℕ) : Type 0 where
+  pub fit : fits (desc_at network part) (record_of network script turns part) ≡ true
+  pub lines : lines_of (desc_at network part).name (report network script turns) ≡ prints (desc_at network part) (record_of network script turns part)
 
 -- The text is the report, in which each partition without shared areas prints so.
 pub record IsReport (network : Network) (script : Script) (turns : ℕ) (text : List ℕ) : Type 0 where

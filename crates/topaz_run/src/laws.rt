@@ -3,7 +3,7 @@
 ghost use Rattle.topaz_run.specs.Laws.{DescribedAreJoined, DescribedAreNamed, DoneRunsPrintAlone};
 
 use config_rules::{accepted_keep_names, accepted_keep_parts, descriptions_are_joined};
-use network::lines_are_of_own_moves;
+use isolation::{lines_are_its_own, recordings_fit};
 
 /// The descriptions that images and device trees complete, of the partitions of an accepted configuration, are joined
 /// with its wiring.
@@ -22,10 +22,12 @@ pub fn described_partitions_are_named()
 }
 
 /// A run that is done writes the report of the network that the files describe; the lines of each partition without shared
-/// areas are what its lone machine prints along the moves that the run gave it.
+/// areas are what its lone machine prints along its recording of the run, which fits it.
 pub fn done_runs_print_alone()
     ensures { DoneRunsPrintAlone }
 {
     described_partitions_are_named();
-    lines_are_of_own_moves();
+    described_partitions_are_joined();
+    lines_are_its_own();
+    recordings_fit();
 }

@@ -1,20 +1,17 @@
 //! The report of a run.
 
-ghost use Rattle.std.specs.Prelude.{◌≡◌, ◌≢◌, ℕ, ◌≤◌, List, ◌++◌, codes, length, IfErr, IfOk};
+ghost use Rattle.std.specs.Prelude.{◌≡◌, ◌≢◌, ℕ, ◌≤◌, List, ◌++◌, length, IfErr, IfOk};
 ghost use Rattle.machine_desc.specs.Joined.{AreJoined};
-ghost use Rattle.trace_text.specs.Refusals.{refused_line};
 ghost use Rattle.network.specs.Turn.{run};
-ghost use Rattle.network.specs.Report.{act_lines, end_lines, step_place};
+ghost use Rattle.network.specs.Report.{act_lines, end_lines};
 ghost use Rattle.system.specs.System.{HaveOneCore};
 ghost use Rattle.system.specs.Shown.{Waits};
 ghost use Rattle.topaz_run.specs.Words.{most_turns};
-ghost use Rattle.topaz_run.specs.Plan.{Refused};
 ghost use Rattle.topaz_run.specs.Reported.{given_by, reported};
-ghost use Rattle.topaz_run.specs.Answers.{Meets, Stops};
+ghost use Rattle.topaz_run.specs.Answers.{Meets};
 
 use crate::gathered::Gathered;
 use crate::status::Stop;
-use crate::text::write_not_built;
 use crate::turns::{run_turns, waiting_at};
 use machine_desc::{Desc, Wiring};
 use outside::{Bytes, Failed};
@@ -56,30 +53,12 @@ fn ended(
     requires system { length system.now.network.wiring.consoles ≡ consoles }
     requires script { length script.now.inputs ≡ consoles }
     requires world { system.now.world ≡ (run system.now.network (given_by script.now) turns).after }
-    requires unbuilt { system.now.unbuilt ≡ (run system.now.network (given_by script.now) turns).unbuilt }
     requires acts { text.text ≡ act_lines system.now.network (run system.now.network (given_by script.now) turns).lines }
     ensures answer { Meets result (reported system.now.network (given_by script.now) turns) }
     ensures no_fault { IfErr result (λ stop. stop ≢ Stop.ReadFault) }
 {
-    match system.not_built() {
-        Some(step) => Err(refused_step(text, step)),
-        None => {
-            let waiting = waiting_at(alloc, system, script, consoles, turns)?;
-            end_text(system, &waiting, text)
-        }
-    }
-}
-
-/// The text, and behind it the line of the step that isn't built.
-fn refused_step(text: Gathered, step: u64) -> Stop
-    ensures refusal { Stops result (Refused (text.text ++ refused_line (codes "N1") (step_place step))) }
-    ensures no_fault { result ≢ Stop.ReadFault }
-{
-    let mut text = text;
-    match write_not_built(&mut text, step) {
-        Ok(()) => Stop::Refused(text.into_bytes()),
-        Err(Failed) => Stop::NoMemory,
-    }
+    let waiting = waiting_at(alloc, system, script, consoles, turns)?;
+    end_text(system, &waiting, text)
 }
 
 /// The text, and behind it the lines of the end.

@@ -4,7 +4,6 @@ ghost use Rattle.std.specs.Prelude.{◌≡◌, codes};
 ghost use Rattle.outside.specs.Pieces.{Writes};
 ghost use Rattle.trace_text.specs.Refusals.{refused_line};
 ghost use Rattle.topaz_run.specs.Outcome.{blob_rule, rule_text, script_rule};
-ghost use Rattle.network.specs.Report.{step_place};
 ghost use Rattle.topaz_run.specs.Text.{accepted_line, line_place};
 
 use hv_config::Rule;
@@ -97,25 +96,6 @@ pub fn write_accepted<S: Sink>(
             channels_digits.format(channels).as_bytes(),
             b" ",
             bells_digits.format(bells).as_bytes(),
-            b"\n",
-        ],
-    )
-}
-
-/// The partition's own step of that number can't be done.
-pub fn write_not_built<S: Sink>(out: &mut S, step: u64) -> Result<(), Failed>
-    ensures { Writes result (S.taken out.old) (S.taken out.new) (S.faults out.old) (S.faults out.new)
-        (refused_line (codes "N1") (step_place step)) }
-{
-    let mut digits = Buffer::new();
-    write_pieces(
-        out,
-        &[
-            b"refused ",
-            b"N1",
-            b" at ",
-            b"step ",
-            digits.format(step).as_bytes(),
             b"\n",
         ],
     )

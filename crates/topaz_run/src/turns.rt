@@ -1,6 +1,6 @@
 //! The turns of a run.
 
-ghost use Rattle.std.specs.Prelude.{◌≡◌, ℕ, ◌≤◌, ◌<◌, ◌+◌, ◌-◌, true, None, [], length, IfOk, OnOk};
+ghost use Rattle.std.specs.Prelude.{◌≡◌, ℕ, ◌≤◌, ◌<◌, ◌+◌, ◌-◌, true, [], length, IfOk, OnOk};
 ghost use Rattle.outside.specs.Pieces.{Writes};
 ghost use Rattle.partition.specs.Machine.{most_steps};
 ghost use Rattle.network.specs.World.{opening_world};
@@ -78,10 +78,8 @@ fn do_turn<S: Sink>(
     requires counted { 1 ≤ number }
     requires few { StepsAtMost (number - 1) system.old.world }
     requires small { number ≤ most_turns }
-    requires going { system.old.unbuilt ≡ None }
     ensures network { system.new.network ≡ system.old.network }
     ensures world { system.new.world ≡ (turn system.old.network (given_by script.now) number system.old.world).after }
-    ensures unbuilt { system.new.unbuilt ≡ (turn system.old.network (given_by script.now) number system.old.world).unbuilt }
     ensures lines { Writes result (S.taken out.old) (S.taken out.new) (S.faults out.old) (S.faults out.new)
         (act_lines system.old.network (turn system.old.network (given_by script.now) number system.old.world).lines) }
     ensures steps { StepsAtMost number system.new.world }
@@ -111,7 +109,7 @@ fn rests(system: &System, script: &Script, consoles: usize, turns: u64) -> bool
     true
 }
 
-/// Does so many turns, from the first on, up to a step that isn't built, and gathers the lines of what was done in them.
+/// Does so many turns, from the first on, and gathers the lines of what was done in them.
 pub fn run_turns(
     system: &mut System,
     script: &Script,
@@ -120,14 +118,12 @@ pub fn run_turns(
     text: &mut Gathered,
 ) -> Result<(), Failed>
     requires opening { system.old.world ≡ opening_world system.old.network }
-    requires going { system.old.unbuilt ≡ None }
     requires empty { text.old.text ≡ [] }
     requires system { length system.old.network.wiring.consoles ≡ consoles }
     requires script { length script.now.inputs ≡ consoles }
     requires few { turns ≤ most_turns }
     ensures network { system.new.network ≡ system.old.network }
     ensures world { OnOk result (system.new.world ≡ (run system.old.network (given_by script.now) turns).after) }
-    ensures unbuilt { OnOk result (system.new.unbuilt ≡ (run system.old.network (given_by script.now) turns).unbuilt) }
     ensures lines { OnOk result (text.new.text ≡ act_lines system.old.network (run system.old.network (given_by script.now) turns).lines) }
 {
     resting_networks_stay();
@@ -136,9 +132,6 @@ pub fn run_turns(
             break;
         }
         do_turn(system, script, consoles, done + 1, text)?;
-        if system.not_built().is_some() {
-            break;
-        }
     }
     Ok(())
 }

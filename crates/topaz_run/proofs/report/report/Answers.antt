@@ -10,9 +10,6 @@ use Rattle.topaz_run.proofs.report.report.Goals as goal
 pub ended-requires-clause-world : goal.ended-requires-clause-world
 ended-requires-clause-world c = c.in_ok-run_turns.ensures.world ∙ ap (λ (n : Network). (run n (given_by c.args.script.now) c.args.turns).after) (sym c.in_ok-run_turns.ensures.network)
 
-pub ended-requires-clause-unbuilt : goal.ended-requires-clause-unbuilt
-ended-requires-clause-unbuilt c = c.in_ok-run_turns.ensures.unbuilt ∙ ap (λ (n : Network). (run n (given_by c.args.script.now) c.args.turns).unbuilt) (sym c.in_ok-run_turns.ensures.network)
-
 pub ended-requires-clause-acts : goal.ended-requires-clause-acts
 ended-requires-clause-acts c = c.in_ok-run_turns.ensures.lines ∙ ap (λ (n : Network). act_lines n (run n (given_by c.args.script.now) c.args.turns).lines) (sym c.in_ok-run_turns.ensures.network)
 

@@ -8,8 +8,8 @@ use Rattle.topaz_run.proofs.Rounds.{turned_by, few_steps, steps_next, text_of, n
 use Rattle.topaz_run.proofs.Stays.{entering_stays}
 use Rattle.topaz_run.proofs.turns.do_turn.Goals as goal
 
-pub turn-requires-clause-few : goal.turn-requires-clause-few
-turn-requires-clause-few g c =
+pub turn-requires : goal.turn-requires
+turn-requires g c =
     let before = c.args.system.now in
     let entered = c.enter_everywhere.new.system.world in
     let given = given_at (given_by c.args.script.now) c.args.number in
@@ -24,14 +24,6 @@ returns-in-Some-clause-world g c =
     let turned = turned_by before.network (given_by c.args.script.now) c.args.number c.args.consoles before.world entered.world entered.network (Some c.in-Some.core) c.requires.system
     (ap (λ (s : Snapshot). s.world) c.enter_everywhere.ensures) (ap (λ (s : Snapshot). s.network) c.enter_everywhere.ensures) (sym c.in-Some.is ∙ c.core_at.ensures.value) in
     c.turn.ensures.world ∙ turned.after
-
-pub returns-in-Some-clause-unbuilt : goal.returns-in-Some-clause-unbuilt
-returns-in-Some-clause-unbuilt g c =
-    let before = c.args.system.now in
-    let entered = c.enter_everywhere.new.system in
-    let turned = turned_by before.network (given_by c.args.script.now) c.args.number c.args.consoles before.world entered.world entered.network (Some c.in-Some.core) c.requires.system
-    (ap (λ (s : Snapshot). s.world) c.enter_everywhere.ensures) (ap (λ (s : Snapshot). s.network) c.enter_everywhere.ensures) (sym c.in-Some.is ∙ c.core_at.ensures.value) in
-    c.turn.ensures.unbuilt ∙ turned.unbuilt
 
 pub returns-in-Some-clause-lines : goal.returns-in-Some-clause-lines
 returns-in-Some-clause-lines g c =
@@ -59,14 +51,6 @@ returns-in-None-clause-world g c =
     let turned = turned_by before.network (given_by c.args.script.now) c.args.number c.args.consoles before.world entered.world entered.network (None) c.requires.system
     (ap (λ (s : Snapshot). s.world) c.enter_everywhere.ensures) (ap (λ (s : Snapshot). s.network) c.enter_everywhere.ensures) (sym c.in-None.is ∙ c.core_at.ensures.value) in
     turned.after
-
-pub returns-in-None-clause-unbuilt : goal.returns-in-None-clause-unbuilt
-returns-in-None-clause-unbuilt g c =
-    let before = c.args.system.now in
-    let entered = c.enter_everywhere.new.system in
-    let turned = turned_by before.network (given_by c.args.script.now) c.args.number c.args.consoles before.world entered.world entered.network (None) c.requires.system
-    (ap (λ (s : Snapshot). s.world) c.enter_everywhere.ensures) (ap (λ (s : Snapshot). s.network) c.enter_everywhere.ensures) (sym c.in-None.is ∙ c.core_at.ensures.value) in
-    ap (λ (s : Snapshot). s.unbuilt) c.enter_everywhere.ensures ∙ c.requires.going ∙ turned.unbuilt
 
 pub returns-in-None-clause-lines : goal.returns-in-None-clause-lines
 returns-in-None-clause-lines g c =

@@ -11,5 +11,4 @@ invariant-loop-console l =
     record {
       network : l.system.network ≡ joined;
       world : (enter_all joined given l.console (l.consoles - l.console) l.system.world).after ≡ (enter_all joined given 0 l.consoles l.fn.system.world).after;
-      unbuilt : l.system.unbuilt ≡ l.fn.system.unbuilt;
     }

@@ -1,11 +1,10 @@
-use Rattle.std.proofs.Common.{◌≡◌, ℕ, ◌+◌, ◌-◌, ◌++◌, Option, None, refl, sym, ap, ◌∙◌, arith}
-use Rattle.std.specs.Prelude.{is_some}
+use Rattle.std.proofs.Common.{◌≡◌, ℕ, ◌+◌, ◌-◌, ◌++◌, refl, sym, ap, ◌∙◌, arith}
 use Rattle.network.specs.Network.{Network}
 use Rattle.network.specs.World.{Passage, passed}
 use Rattle.network.specs.Turn.{turn, turns_from, run}
 use Rattle.network.specs.Report.{act_lines}
 use Rattle.topaz_run.specs.Reported.{given_by}
-use Rattle.topaz_run.proofs.Rounds.{run_none, opening_steps, goes_on, ends_resting, ends_unbuilt, none_waits, told_step, told_end}
+use Rattle.topaz_run.proofs.Rounds.{run_none, opening_steps, goes_on, ends_resting, none_waits}
 use Rattle.topaz_run.proofs.turns.run_turns.Goals as goal
 
 pub loop-done-init : goal.loop-done-init
@@ -15,8 +14,6 @@ loop-done-init c =
     record {
       network = refl;
       world = c.requires.opening ∙ sym (ap (λ (p : Passage). p.after) none);
-      built = ap (λ (p : Passage). p.unbuilt) none;
-      going = c.requires.going;
       steps = opening_steps joined c.args.system.now.world c.requires.opening;
       lines = c.requires.empty ∙ sym (ap (λ (p : Passage). act_lines joined p.lines) none);
     }
@@ -29,13 +26,10 @@ loop-done-preserved c =
     let done = c.loop-done.done in
     let kept = c.loop-done.invariant in
     let did = c.in_ok-do_turn.ensures in
-    let goes = goes_on joined script done here.world kept.world kept.built in
-    let built : c.do_turn.new.system.unbuilt ≡ None = told_step c.do_turn.new.system.unbuilt c.is_some.result (c.is_some.ensures ∙ ap (λ (o : Option ℕ). is_some o) c.not_built.ensures) c.if-is_some.false in
+    let goes = goes_on joined script done here.world kept.world in
     record {
       network = did.network ∙ kept.network;
       world = did.world ∙ ap (λ (n : Network). (turn n script (done + 1) here.world).after) kept.network ∙ sym goes.after;
-      built = goes.unbuilt ∙ sym (did.unbuilt ∙ ap (λ (n : Network). (turn n script (done + 1) here.world).unbuilt) kept.network) ∙ built;
-      going = built;
       steps = did.steps;
       lines = did.lines.whole ∙ (λ i. kept.lines i ++ act_lines (kept.network i) (turn (kept.network i) script (done + 1) here.world).lines) ∙ sym goes.lines;
     }
@@ -53,19 +47,6 @@ returns-then-rests-clause-world c =
     let whole : run joined script done ≡ run joined script c.args.turns = sym (ends_resting joined script done c.args.turns here.world (omega (arith, c.loop-done-test.true)) kept.world passes) in
     kept.world ∙ ap (λ (p : Passage). p.after) whole
 
-pub returns-then-rests-clause-unbuilt : goal.returns-then-rests-clause-unbuilt
-returns-then-rests-clause-unbuilt c =
-    let joined = c.args.system.now.network in
-    let script = given_by c.args.script.now in
-    let here = c.loop-done.system in
-    let done = c.loop-done.done in
-    let kept = c.loop-done.invariant in
-    let passes : turns_from joined script (done + 1) (c.args.turns - done) here.world ≡ passed here.world =
-    c.resting_networks_stay.ensures joined script (done + 1) (c.args.turns - done) here.world (c.rests.ensures.rest c.if-rests.true)
-    (λ later console few. none_waits c.args.script.now here.world c.args.turns c.args.consoles c.requires.script (c.rests.ensures.entered c.if-rests.true) later console (omega (arith, few, c.loop-done-test.true))) in
-    let whole : run joined script done ≡ run joined script c.args.turns = sym (ends_resting joined script done c.args.turns here.world (omega (arith, c.loop-done-test.true)) kept.world passes) in
-    kept.going ∙ sym kept.built ∙ ap (λ (p : Passage). p.unbuilt) whole
-
 pub returns-then-rests-clause-lines : goal.returns-then-rests-clause-lines
 returns-then-rests-clause-lines c =
     let joined = c.args.system.now.network in
@@ -78,46 +59,3 @@ returns-then-rests-clause-lines c =
     (λ later console few. none_waits c.args.script.now here.world c.args.turns c.args.consoles c.requires.script (c.rests.ensures.entered c.if-rests.true) later console (omega (arith, few, c.loop-done-test.true))) in
     let whole : run joined script done ≡ run joined script c.args.turns = sym (ends_resting joined script done c.args.turns here.world (omega (arith, c.loop-done-test.true)) kept.world passes) in
     kept.lines ∙ ap (λ (p : Passage). act_lines joined p.lines) whole
-
-pub returns-then-is_some-clause-world : goal.returns-then-is_some-clause-world
-returns-then-is_some-clause-world c =
-    let joined = c.args.system.now.network in
-    let script = given_by c.args.script.now in
-    let here = c.loop-done.system in
-    let done = c.loop-done.done in
-    let kept = c.loop-done.invariant in
-    let did = c.in_ok-do_turn.ensures in
-    let goes = goes_on joined script done here.world kept.world kept.built in
-    let told = told_end c.do_turn.new.system.unbuilt c.is_some.result (c.is_some.ensures ∙ ap (λ (o : Option ℕ). is_some o) c.not_built.ensures) c.if-is_some.true in
-    let same : c.do_turn.new.system.unbuilt ≡ (run joined script (done + 1)).unbuilt = did.unbuilt ∙ ap (λ (n : Network). (turn n script (done + 1) here.world).unbuilt) kept.network ∙ sym goes.unbuilt in
-    let whole : run joined script (done + 1) ≡ run joined script c.args.turns = sym (ends_unbuilt joined script (done + 1) c.args.turns told.0 (omega (arith, c.loop-done-test.true)) (sym same ∙ told.1)) in
-    did.world ∙ ap (λ (n : Network). (turn n script (done + 1) here.world).after) kept.network ∙ sym goes.after ∙ ap (λ (p : Passage). p.after) whole
-
-pub returns-then-is_some-clause-unbuilt : goal.returns-then-is_some-clause-unbuilt
-returns-then-is_some-clause-unbuilt c =
-    let joined = c.args.system.now.network in
-    let script = given_by c.args.script.now in
-    let here = c.loop-done.system in
-    let done = c.loop-done.done in
-    let kept = c.loop-done.invariant in
-    let did = c.in_ok-do_turn.ensures in
-    let goes = goes_on joined script done here.world kept.world kept.built in
-    let told = told_end c.do_turn.new.system.unbuilt c.is_some.result (c.is_some.ensures ∙ ap (λ (o : Option ℕ). is_some o) c.not_built.ensures) c.if-is_some.true in
-    let same : c.do_turn.new.system.unbuilt ≡ (run joined script (done + 1)).unbuilt = did.unbuilt ∙ ap (λ (n : Network). (turn n script (done + 1) here.world).unbuilt) kept.network ∙ sym goes.unbuilt in
-    let whole : run joined script (done + 1) ≡ run joined script c.args.turns = sym (ends_unbuilt joined script (done + 1) c.args.turns told.0 (omega (arith, c.loop-done-test.true)) (sym same ∙ told.1)) in
-    same ∙ ap (λ (p : Passage). p.unbuilt) whole
-
-pub returns-then-is_some-clause-lines : goal.returns-then-is_some-clause-lines
-returns-then-is_some-clause-lines c =
-    let joined = c.args.system.now.network in
-    let script = given_by c.args.script.now in
-    let here = c.loop-done.system in
-    let done = c.loop-done.done in
-    let kept = c.loop-done.invariant in
-    let did = c.in_ok-do_turn.ensures in
-    let goes = goes_on joined script done here.world kept.world kept.built in
-    let told = told_end c.do_turn.new.system.unbuilt c.is_some.result (c.is_some.ensures ∙ ap (λ (o : Option ℕ). is_some o) c.not_built.ensures) c.if-is_some.true in
-    let same : c.do_turn.new.system.unbuilt ≡ (run joined script (done + 1)).unbuilt = did.unbuilt ∙ ap (λ (n : Network). (turn n script (done + 1) here.world).unbuilt) kept.network ∙ sym goes.unbuilt in
-    let whole : run joined script (done + 1) ≡ run joined script c.args.turns = sym (ends_unbuilt joined script (done + 1) c.args.turns told.0 (omega (arith, c.loop-done-test.true)) (sym same ∙ told.1)) in
-    did.lines.whole ∙ (λ i. kept.lines i ++ act_lines (kept.network i) (turn (kept.network i) script (done + 1) here.world).lines) ∙ sym goes.lines
-    ∙ ap (λ (p : Passage). act_lines joined p.lines) whole

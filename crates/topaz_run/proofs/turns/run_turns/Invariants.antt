@@ -1,4 +1,4 @@
-use Rattle.std.proofs.Common.{◌≡◌, None}
+use Rattle.std.proofs.Common.{◌≡◌}
 use Rattle.network.specs.Turn.{run}
 use Rattle.network.specs.Report.{act_lines}
 use Rattle.topaz_run.specs.Reported.{given_by}
@@ -11,8 +11,6 @@ invariant-loop-done l =
     record {
       network : l.system.network ≡ joined;
       world : l.system.world ≡ (run joined (given_by l.script) l.done).after;
-      built : (run joined (given_by l.script) l.done).unbuilt ≡ None;
-      going : l.system.unbuilt ≡ None;
       steps : StepsAtMost l.done l.system.world;
       lines : l.text.text ≡ act_lines joined (run joined (given_by l.script) l.done).lines;
     }
