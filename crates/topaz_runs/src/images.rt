@@ -98,11 +98,18 @@ pub const RECEIVE: [u32; 15] = [
     0x4800_0000, // b .
 ];
 
-/// Asks to copy memory, which isn't built yet.
-pub const NOT_BUILT: [u32; 3] = [
+/// Asks to copy memory where it manages no partition, and sends the status.
+pub const COPY: [u32; 10] = [
     0x3D60_0002, // lis r11,2
     0x616B_0008, // ori r11,r11,8
     0x4400_0022, // sc 1
+    0x7C65_1B78, // mr r5,r3
+    0x3D60_0001, // lis r11,1
+    0x616B_0001, // ori r11,r11,1
+    0x3860_0001, // li r3,1
+    0x3880_0004, // li r4,4
+    0x4400_0022, // sc 1
+    0x4800_0000, // b .
 ];
 
 /// Has a user program try all that is privileged, and sends how often it was refused and which bits ESR had but that of

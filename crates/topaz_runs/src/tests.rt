@@ -161,10 +161,10 @@ fn images_write_what_was_worked_out(rt: HostRuntime) -> Result<(), Fail> {
             "guest 14 sent 1 000000000000000000000000\nend guest running 14\nconsole con 12 0 0\n",
         ),
         (
-            NOT_BUILT.as_slice(),
+            COPY.as_slice(),
             "9",
-            Status::Refused,
-            "refused N1 at step 3\n",
+            Status::Ok,
+            "guest 9 sent 1 00000008\nend guest running 9\nconsole con 4 0 0\n",
         ),
         (
             [].as_slice(),
