@@ -14,8 +14,11 @@ turn-requires g c =
     let entered = c.enter_everywhere.new.system.world in
     let given = given_at (given_by c.args.script.now) c.args.number in
     let is = ap (λ (s : Snapshot). s.world) c.enter_everywhere.ensures in
-    few_steps c.args.number before.world entered c.requires.few c.requires.counted c.requires.small
-    (λ part. ap (λ (w : World). (machine_at w.machines part).inner.steps) is ∙ entering_stays before.network given 0 c.args.consoles before.world part)
+    record {
+      few =
+          few_steps c.args.number before.world entered c.requires.few c.requires.counted c.requires.small
+          (λ part. ap (λ (w : World). (machine_at w.machines part).inner.steps) is ∙ entering_stays before.network given 0 c.args.consoles before.world part);
+    }
 
 pub returns-in-Some-clause-world : goal.returns-in-Some-clause-world
 returns-in-Some-clause-world g c =
