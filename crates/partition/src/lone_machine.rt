@@ -223,6 +223,14 @@ impl LoneMachine {
         self.ports.waiting(h)
     }
 
+    /// How many bytes were sent on a channel that nobody has taken.
+    pub fn outstanding(&self, h: u32) -> u16
+        requires { kind_at (kinds_of self.now.desc.ports) h ≡ Some Kind.Channel }
+        ensures { result ≡ (end_at self.now.machine.ports h).outstanding }
+    {
+        self.ports.outstanding(h)
+    }
+
     /// Bytes come on a channel, which has room for them.
     #[tactic(auto, unfolding(crate::specs::Event::apply))]
     pub fn give(&mut self, h: u32, bytes: &[u8])

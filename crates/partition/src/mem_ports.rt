@@ -92,6 +92,15 @@ impl MemPorts {
         self.ends[(h - 1) as usize].channel.send(Side::B, bytes);
     }
 
+    /// How many bytes were sent on a channel that nobody has taken.
+    #[tactic(auto, using(crate::proofs::Ends::end_there, crate::proofs::Ends::is_there))]
+    pub fn outstanding(&self, h: u32) -> u16
+        requires { kind_at (spec.held_kinds self.now) h ≡ Some Kind.Channel }
+        ensures { result ≡ (end_at (spec.held_ends self.now) h).outstanding }
+    {
+        self.ends[(h - 1) as usize].channel.waiting(Side::B)
+    }
+
     /// Takes the first of the bytes that were sent on a channel, as many as fit into the slice, which so many wait for.
     #[tactic(auto, using(crate::proofs::Ends::freed_end, crate::proofs::Ends::ends_put, crate::proofs::Ends::sorts_put, crate::proofs::Ends::end_there, crate::proofs::Ends::is_there))]
     pub fn free(&mut self, h: u32, into: &mut [u8])
