@@ -5,6 +5,7 @@ pub mod Entering
 pub mod Effects
 pub mod Turn
 pub mod Report
+pub mod Tally
 pub mod Lines
 pub mod Laws
 pub mod Example

@@ -49,7 +49,7 @@ same_total (x ∷ xs) (y ∷ ys) long same =
     let b = total_cons y ys in
     omega (arith, head, tail, a, b)
 
-total_rises : (before after : List Part) (who : ℕ) → length after ≡ length before → who < length before → (part_at after who).inner.steps ≡ (part_at before who).inner.steps + 1
+pub total_rises : (before after : List Part) (who : ℕ) → length after ≡ length before → who < length before → (part_at after who).inner.steps ≡ (part_at before who).inner.steps + 1
     → ((part : ℕ) → part < length before → part ≢ who → (part_at after part).inner.steps ≡ (part_at before part).inner.steps)
     → total_steps after ≡ total_steps before + 1
 total_rises [] ys who long here own others = absurd (omega (arith, here))
@@ -85,6 +85,14 @@ small_counts held kept =
       printed = λ console. let p = kept.counted.printed console in omega (arith, few, long, total, p);
       entered = λ console. let e = kept.counted.entered console in omega (arith, few, long, total, e);
     }
+
+-- nor is what all steps come to
+pub few_steps : (held : Held) → IsSystem held → 16 * total_steps held.parts < most_counted
+few_steps held kept =
+    let few = (joined_parts _ held.wiring kept.joined).few in
+    let long = length-map held.parts (λ (p : Part). p.desc) in
+    let total = total_small held.parts kept.counted.steps in
+    omega (arith, few, long, total)
 
 -- ---- before the first turn
 

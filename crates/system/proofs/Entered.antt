@@ -17,6 +17,7 @@ use Rattle.partition.specs.Event.{Bytes}
 use Rattle.partition.specs.Machine.{Machine, fresh}
 use Rattle.partition.specs.Lending.{Part as Member, machine_of}
 use Rattle.network.specs.Network.{Network, is_end as is_same_end, no_desc, far_end}
+use Rattle.network.specs.Tally.{Tally}
 use Rattle.network.specs.World.{Counts, World, machine_at, delivered, after_log}
 use Rattle.network.specs.Entering.{received_room, come_to, count_entered, entered_at, enter}
 use Rattle.system.specs.declared.wire.ChannelEnd.{ChannelEnd}
@@ -25,7 +26,7 @@ use Rattle.system.specs.declared.wire.Wire.TheVariants.{Channel}
 use Rattle.system.specs.Board.{Lines, no_side, channel_at, console_at, console_room, ends_of, wires_at, sent_by}
 use Rattle.system.specs.Wired.{channel_wire, console_side}
 use Rattle.system.specs.Channels.{wires_of, come_far}
-use Rattle.system.specs.System.{Held, Snapshot, part_at, network_of, machine_in, machines_of, snapshot_of, AreTaken, IsSystem}
+use Rattle.system.specs.System.{Held, Snapshot, part_at, network_of, machine_in, machines_of, world_of, snapshot_of, AreTaken, IsSystem}
 use Rattle.system.proofs.Handles.{is_lent}
 use Rattle.system.proofs.Counted.{enters_counted}
 use Rattle.system.proofs.Tied.{joined_parts, all_at, no_link, end_at, side_at, console_found, console_once, all_length}
@@ -177,19 +178,19 @@ machines_after held console bytes counts kept here it =
 
 -- ---- the world
 
-pub entered_is : (held : Held) (console count : ℕ) (bytes : List ℕ) → IsSystem held → console < length held.wiring.consoles → count ≡ min (console_room held.lines console) (length bytes)
-    → snapshot_of (after_bytes held console (take count bytes) (count_entered console count held.counts))
-    ≡ record (snapshot_of held) { world = (enter (network_of held) console bytes (snapshot_of held).world).after }
+pub entered_is : (tally : Tally) (held : Held) (console count : ℕ) (bytes : List ℕ) → IsSystem held → console < length held.wiring.consoles → count ≡ min (console_room held.lines console) (length bytes)
+    → snapshot_of tally (after_bytes held console (take count bytes) (count_entered console count held.counts))
+    ≡ record (snapshot_of tally held) { world = (enter (network_of held) console bytes (world_of held)).after }
 unfolding enter
-entered_is held console count bytes kept here few =
+entered_is tally held console count bytes kept here few =
     let it = console_joined (network_of held) console kept.joined here in
     let network : Network = network_of held in
-    let world : World = (snapshot_of held).world in
+    let world : World = world_of held in
     let room = room_is held console kept here it in
     let much : count ≡ min (received_room (machines_of held) it.ref) (length bytes) = few ∙ ap (λ (r : ℕ). min r (length bytes)) (sym room) in
-    let now : Snapshot = snapshot_of held in
-    ap (λ (n : ℕ). snapshot_of (after_bytes held console (take n bytes) (count_entered console n held.counts))) much
-    ∙ (ap (λ (l : List ℕ). snapshot_of (after_bytes held console l (count_entered console (min (received_room (machines_of held) it.ref) (length bytes)) held.counts))) (take_min (received_room (machines_of held) it.ref) bytes)
+    let now : Snapshot = snapshot_of tally held in
+    ap (λ (n : ℕ). snapshot_of tally (after_bytes held console (take n bytes) (count_entered console n held.counts))) much
+    ∙ (ap (λ (l : List ℕ). snapshot_of tally (after_bytes held console l (count_entered console (min (received_room (machines_of held) it.ref) (length bytes)) held.counts))) (take_min (received_room (machines_of held) it.ref) bytes)
     ∙ (ap (λ (ms : List Machine). let next : Snapshot = record now { world = record { machines = ms; consoles = count_entered console (min (received_room (machines_of held) it.ref) (length bytes)) held.counts } } in next)
     (machines_after held console (take (received_room (machines_of held) it.ref) bytes) (count_entered console (min (received_room (machines_of held) it.ref) (length bytes)) held.counts) kept here it)
     ∙ ap (λ (far : Option LinkEnd). let next : Snapshot = record now { world = (entered_at network far console bytes world).after } in next) (sym it.far)))
@@ -270,7 +271,7 @@ much_taken room count bytes few = length-take-le count bytes (omega (arith, few)
 
 pub record IsEntered (held new : Held) (console : ℕ) (bytes : List ℕ) : Type 0 where
   pub kept : IsSystem new
-  pub view : snapshot_of new ≡ record (snapshot_of held) { world = (enter (network_of held) console bytes (snapshot_of held).world).after }
+  pub view : (tally : Tally) → snapshot_of tally new ≡ record (snapshot_of tally held) { world = (enter (network_of held) console bytes (world_of held)).after }
 
 pub entered_from : (held : Held) (console count : ℕ) (bytes : List ℕ) (lines : Lines) (counts : List Counts) → IsSystem held → console < length held.wiring.consoles
     → count ≡ min (console_room held.lines console) (length bytes)
@@ -286,5 +287,5 @@ entered_from held console count bytes lines counts kept here few l c =
           (entered_kept held console (take count bytes) kept here
           (let much = much_taken (console_room held.lines console) count bytes few in
           omega (arith, much, few)));
-      view = entered_is held console count bytes kept here few;
+      view = λ tally. entered_is tally held console count bytes kept here few;
     }))

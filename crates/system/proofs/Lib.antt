@@ -28,6 +28,7 @@ pub mod Begun
 pub mod Copies
 pub mod Telling
 pub mod Parted
+pub mod Tallied
 pub mod Settled
 pub mod Kept
 pub mod Turned

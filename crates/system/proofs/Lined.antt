@@ -16,6 +16,7 @@ use Rattle.partition.specs.Lending.{Part}
 use Rattle.network.specs.Network.{Network, no_desc, desc_at}
 use Rattle.network.specs.World.{Counts, Line, machine_at, no_counts, counts_at}
 use Rattle.network.specs.Entering.{waiting}
+use Rattle.network.specs.Tally.{Tally}
 use Rattle.network.specs.Turn.{is_running}
 use Rattle.network.specs.Laws.{is_at_rest, are_at_rest}
 use Rattle.network.specs.Report.{act_lines, machine_lines, counts_line, counts_lines, end_lines}
@@ -23,7 +24,7 @@ use Rattle.system.specs.declared.deed.Deed.{Deed}
 use Rattle.system.specs.declared.show.Show.{Show}
 use Rattle.system.specs.declared.show.Show.TheVariants.{Acts, Quiet}
 use Rattle.system.specs.Shown.{Waits, shown, deed_line, shown_deed, part_lines, console_lines}
-use Rattle.system.specs.System.{Held, Snapshot, no_part, part_at, descs_of, machines_of, snapshot_of, are_parts_at_rest, IsSystem}
+use Rattle.system.specs.System.{Held, Snapshot, no_part, part_at, descs_of, machines_of, world_of, network_of, snapshot_of, are_parts_at_rest, IsSystem}
 use Rattle.system.proofs.Opened.{machine_there, machines_length}
 
 -- ---- partitions
@@ -94,15 +95,15 @@ console_lines_from (name ∷ names) counts waits given first long same h =
 
 -- ---- all of them
 
-end_lines_held : (held : Held) (given : ℕ → List ℕ) (waits : List ℕ) → IsSystem held → length waits ≡ length held.wiring.consoles → Waits (snapshot_of held).network given (snapshot_of held).world waits
-    → part_lines held.parts ++ console_lines held.wiring.consoles held.counts waits ≡ end_lines (snapshot_of held).network given (snapshot_of held).world
+end_lines_held : (held : Held) (given : ℕ → List ℕ) (waits : List ℕ) → IsSystem held → length waits ≡ length held.wiring.consoles → Waits (network_of held) given (world_of held) waits
+    → part_lines held.parts ++ console_lines held.wiring.consoles held.counts waits ≡ end_lines (network_of held) given (world_of held)
 end_lines_held held given waits kept long h =
     let counts = kept.counts in
     ap (λ (l : List ℕ). l ++ console_lines held.wiring.consoles held.counts waits) (part_lines_are held)
     ∙ ap (λ (l : List ℕ). machine_lines 0 (descs_of held.parts) (machines_of held) ++ l)
     (console_lines_from held.wiring.consoles held.counts waits given 0 (omega (arith, counts)) (omega (arith, long, counts)) (λ k there. h k (omega (arith, there, counts))))
 
-pub end_lines_are : (held : Held) (now : Snapshot) (given : ℕ → List ℕ) (waits : List ℕ) → snapshot_of held ≡ now → IsSystem held → length waits ≡ length now.network.wiring.consoles
+pub end_lines_are : {tally : Tally} (held : Held) (now : Snapshot) (given : ℕ → List ℕ) (waits : List ℕ) → snapshot_of tally held ≡ now → IsSystem held → length waits ≡ length now.network.wiring.consoles
     → Waits now.network given now.world waits → part_lines held.parts ++ console_lines held.wiring.consoles held.counts waits ≡ end_lines now.network given now.world
 end_lines_are held now given waits view kept =
     subst
@@ -126,14 +127,14 @@ rest_is held =
     same_all (λ (part : Part). not (is_running part.inner.state)) is_at_rest held.parts (machines_of held) no_part (fresh no_desc) (sym long)
     (λ i there. ap (λ (own : Inner). not (is_running own.state)) (sym (inner_of held i there)))
 
-pub rests_as : (held : Held) (now : Snapshot) (parts : List Part) (rests : Bool) → snapshot_of held ≡ now → parts ≡ held.parts → rests ≡ are_parts_at_rest parts → rests ≡ are_at_rest now.world.machines
+pub rests_as : {tally : Tally} (held : Held) (now : Snapshot) (parts : List Part) (rests : Bool) → snapshot_of tally held ≡ now → parts ≡ held.parts → rests ≡ are_parts_at_rest parts → rests ≡ are_at_rest now.world.machines
 rests_as held now parts rests view same e = e ∙ (ap are_parts_at_rest same ∙ (rest_is held ∙ ap (λ (s : Snapshot). are_at_rest s.world.machines) view))
 
-pub desc_there : (held : Held) (now : Snapshot) (part : ℕ) → snapshot_of held ≡ now → part < length held.parts → (part_at held.parts part).desc ≡ desc_at now.network part
+pub desc_there : {tally : Tally} (held : Held) (now : Snapshot) (part : ℕ) → snapshot_of tally held ≡ now → part < length held.parts → (part_at held.parts part).desc ≡ desc_at now.network part
 desc_there held now part view there =
     sym (get_or-map (λ (p : Part). p.desc) held.parts part no_part no_desc there) ∙ ap (λ (s : Snapshot). desc_at s.network part) view
 
-pub there_in : (held : Held) (now : Snapshot) (part : ℕ) → snapshot_of held ≡ now → part < length now.network.descs → part < length held.parts
+pub there_in : {tally : Tally} (held : Held) (now : Snapshot) (part : ℕ) → snapshot_of tally held ≡ now → part < length now.network.descs → part < length held.parts
 there_in held now part view here =
     let within : part < length (descs_of held.parts) = subst (λ (s : Snapshot). part < length s.network.descs) (sym view) here in
     let descs = length-map held.parts (λ (p : Part). p.desc) in

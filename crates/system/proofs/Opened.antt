@@ -17,10 +17,11 @@ use Rattle.partition.specs.Port.{End, fresh_end}
 use Rattle.partition.specs.Machine.{Machine, fresh, fresh_inner}
 use Rattle.partition.specs.Lending.{Part, machine_of}
 use Rattle.network.specs.Network.{Network, no_desc}
+use Rattle.network.specs.Tally.{no_tally}
 use Rattle.network.specs.World.{Counts, no_counts, machine_at, opening_world}
 use Rattle.system.specs.Board.{Lines, ends_of, wires_at}
 use Rattle.system.specs.Wired.{console_side, begins_running, opening_lines, regions_of}
-use Rattle.system.specs.System.{Held, Snapshot, fresh_part, no_part, part_at, descs_of, machine_in, machines_of, snapshot_of, IsSystem, AreLoaded}
+use Rattle.system.specs.System.{Held, Snapshot, fresh_part, no_part, part_at, descs_of, machine_in, machines_of, world_of, network_of, snapshot_of, IsSystem, AreLoaded}
 use Rattle.system.proofs.Fresh.{none_wait, open_fresh}
 use Rattle.system.proofs.Tied.{joined_parts}
 use Rattle.system.proofs.Counted.{opens_counted}
@@ -106,25 +107,27 @@ machines_open descs wiring memory joined loaded =
 
 -- it is the definition's world before the first turn
 pub opens : (descs : List Desc) (wiring : Wiring) (memory : List (List ℕ)) → AreJoined descs wiring → AreLoaded descs memory
-    → snapshot_of (record {
+    → snapshot_of no_tally (record {
       parts = map fresh_part descs;
       memory = memory;
       lines = opening_lines descs wiring;
       wiring = wiring;
       counts = replicate (length wiring.consoles) no_counts;
-    }) ≡ record { network = record { descs = descs; wiring = wiring }; world = opening_world (record { descs = descs; wiring = wiring }) }
+    }) ≡ record { network = record { descs = descs; wiring = wiring }; world = opening_world (record { descs = descs; wiring = wiring }); tally = no_tally }
 unfolding opening_world
 opens descs wiring memory joined loaded =
     ap (λ (l : List Desc).
     let it : Snapshot = record {
       network = record { descs = l; wiring = wiring };
       world = record { machines = machines_of (opening descs wiring memory); consoles = replicate (length wiring.consoles) no_counts };
+      tally = no_tally;
     } in
     it) (descs_back descs)
     ∙ ap (λ (l : List Machine).
     let it : Snapshot = record {
       network = record { descs = descs; wiring = wiring };
       world = record { machines = l; consoles = replicate (length wiring.consoles) no_counts };
+      tally = no_tally;
     } in
     it) (machines_open descs wiring memory joined loaded)
 

@@ -28,15 +28,16 @@ use Rattle.network.specs.Network.{Network, no_desc, desc_at, ref_to, is_end as i
 use Rattle.network.specs.Report.{act_line, traced_line, act_lines}
 use Rattle.network.specs.World.{Counts, World, Line, line_of, machine_at, entry_for, delivered, after_entry, after_log}
 use Rattle.network.specs.Effects.{brought, shown, printed_by}
+use Rattle.network.specs.Tally.{Tally, after_act, after_lines}
 use Rattle.network.specs.Turn.{done_by, feed_for, log_of, steps_in}
 use Rattle.network.proofs.Logs.{after_both}
 use Rattle.system.specs.Board.{Lines, kinds_of, wires_at, own_kinds}
 use Rattle.partition.specs.declared.kind.Kind.{Kind}
 use Rattle.system.specs.declared.wire.Wire.{Wire}
-use Rattle.system.specs.System.{Held, Snapshot, no_part, part_at, descs_of, network_of, machine_in, machines_of, snapshot_of, IsSystem}
+use Rattle.system.specs.System.{Held, Snapshot, no_part, part_at, descs_of, network_of, machine_in, machines_of, world_of, snapshot_of, IsSystem}
 use Rattle.system.specs.Turning.{AfterCopy, AfterStep, Asks, Follows, HasConsole, Hears, Turns, kept_part}
 use Rattle.system.proofs.Tied.{joined_parts, all_length}
-use Rattle.system.proofs.Counted.{CountsStep, small_counts}
+use Rattle.system.proofs.Counted.{CountsStep, small_counts, total_rises}
 use Rattle.system.proofs.Opened.{machine_there, machines_length, fresh_steps}
 use Rattle.partition.proofs.Ways.{copy_way}
 use Rattle.system.proofs.Given.{Gives, Arrives, arrives, step_gives, with_copy_sizes}
@@ -44,6 +45,7 @@ use Rattle.system.proofs.Shown.{IsStep, after_shown, pieces_by, stepping, steppe
 use Rattle.system.proofs.Told.{IsHeard, heard_desc}
 use Rattle.system.proofs.Acts.{left_by, kinds_are}
 use Rattle.system.proofs.Commanded.{settled_lines, lent_machine}
+use Rattle.system.proofs.Tallied.{tallied}
 use Rattle.system.proofs.Settled.{HasPieces, settled}
 use Rattle.system.proofs.Kept.{descs_stay, counts_step, printed_so, turn_kept}
 
@@ -158,6 +160,7 @@ turned held stepped rung after loaded lent left core act ranges new kept here fe
     ∙ ap (λ (a : Act). after_log network (map delivered (brought network machines held.lines.who a)) (after_shown network machines held.lines.who core)) (sym so.act) in
     let logged : after_log network (log_of network machines held.lines.who core done) machines ≡ after_log network (map delivered (brought network machines held.lines.who done.act)) (after_shown network machines held.lines.who core) =
     after_both network (shown network held.lines.who done) (map delivered (brought network machines held.lines.who done.act)) (after_entry network (entry_for held.lines.who (stepping held held.lines.who core)) machines) in
+    let step : CountsStep held.lines.who held.parts rung = counts_step held stepped f.heard rung memory loaded lines left core act ranges held.counts new h s in
     let counts : new ≡ printed_by network held.lines.who done.act held.counts =
     printed_so held f.heard rung memory loaded lent left act held.counts new s pieces ∙ ap (λ (a : Act). printed_by network held.lines.who a held.counts) (sym so.act) in
     record {
@@ -168,7 +171,9 @@ turned held stepped rung after loaded lent left core act ranges new kept here fe
       pieces = pieces;
       did = so.act;
       total = so.total;
-      counted = rises held (left_by held rung loaded left new) (counts_step held stepped f.heard rung memory loaded lines left core act ranges held.counts new h s);
+      bytes = c.step.bytes;
+      counted = rises held (left_by held rung loaded left new) step;
+      rises = total_rises held.parts rung held.lines.who step.count here step.own step.others;
     }
 
 -- ---- what the program asks for
@@ -247,14 +252,14 @@ heard_asks wiring act stepped heard memory lines counts ranges a h = record {
 abbrev pub lent_to : Held → ℕ → Held
 lent_to held who = record held { lines = record held.lines { who = who } }
 
-pub lent_same : (held : Held) (who : ℕ) → snapshot_of (lent_to held who) ≡ snapshot_of held
+pub lent_same : (held : Held) (who : ℕ) → world_of (lent_to held who) ≡ world_of held
 unfolding machines_of
 lent_same held who = refl
 
 pub lent_kept : (held : Held) (who : ℕ) → IsSystem held → IsSystem (lent_to held who)
 lent_kept held who k = record { joined = k.joined; wires = k.wires; running = k.running; channels = k.channels; maps = k.maps; consoles = k.consoles; counts = k.counts; placed = k.placed; taken = k.taken; counted = record { steps = k.counted.steps; printed = k.counted.printed; entered = k.counted.entered } }
 
-pub inner_there : (held : Held) (now : Snapshot) (part who : ℕ) → snapshot_of held ≡ now → part < length now.network.descs → who ≡ part
+pub inner_there : {tally : Tally} (held : Held) (now : Snapshot) (part who : ℕ) → snapshot_of tally held ≡ now → part < length now.network.descs → who ≡ part
     → (machine_at now.world.machines part).inner ≡ (part_at held.parts who).inner
 inner_there held now part who view here same =
     let within : part < length (descs_of held.parts) = subst (λ (s : Snapshot). part < length s.network.descs) (sym view) here in
@@ -292,18 +297,22 @@ lined network world part core pieces act e total =
 
 -- a step of the network, by what callers see
 pub record IsTurned (now : Snapshot) (new : Held) (part core : ℕ) (act : Told) : Type 0 where
-  pub world : (snapshot_of new).world ≡ (steps_in now.network part core now.world).after
+  pub world : world_of new ≡ (steps_in now.network part core now.world).after
   pub line : act_text (desc_at now.network part).name ((machine_at now.world.machines part).inner.steps + 1) act ≡ act_lines now.network (steps_in now.network part core now.world).lines
+  pub tally : after_act (act_of [] act) now.tally ≡ after_lines (steps_in now.network part core now.world).lines now.tally
   pub counted : (other : ℕ) → (machine_at (machines_of new) other).inner.steps ≤ (machine_at now.world.machines other).inner.steps + 1
 
-turned_lent : (held new : Held) (part core : ℕ) (act : Told) → Turns (lent_to held part) new core act → IsTurned (snapshot_of held) new part core act
-turned_lent held new part core act t = record {
-  world = t.world ∙ ap (λ (s : Snapshot). (steps_in (network_of held) part core s.world).after) (lent_same held part);
-  line = lined (network_of held) (snapshot_of held).world part core t.pieces act (ap (λ (s : Snapshot). (done_by (network_of held) s.world.machines part core).act) (sym (lent_same held part)) ∙ t.did) t.total;
-  counted = λ other. subst (λ (s : Snapshot). (machine_at (machines_of new) other).inner.steps ≤ (machine_at s.world.machines other).inner.steps + 1) (lent_same held part) (t.counted other);
-}
+turned_lent : (tally : Tally) (held new : Held) (part core : ℕ) (act : Told) → Turns (lent_to held part) new core act → IsTurned (snapshot_of tally held) new part core act
+turned_lent tally held new part core act t =
+    let did = ap (λ (w : World). (done_by (network_of held) w.machines part core).act) (sym (lent_same held part)) ∙ t.did in
+    record {
+      world = t.world ∙ ap (λ (w : World). (steps_in (network_of held) part core w).after) (lent_same held part);
+      line = lined (network_of held) (world_of held) part core t.pieces act did t.total;
+      tally = tallied (network_of held) (world_of held) part core t.pieces act tally did;
+      counted = λ other. subst (λ (w : World). (machine_at (machines_of new) other).inner.steps ≤ (machine_at w.machines other).inner.steps + 1) (lent_same held part) (t.counted other);
+    }
 
-pub turned_as : (held new : Held) (now : Snapshot) (lines : Lines) (part core : ℕ) (act : Told) → snapshot_of held ≡ now → lines ≡ record held.lines { who = part } → Turns (record held { lines = lines }) new core act
+pub turned_as : {tally : Tally} (held new : Held) (now : Snapshot) (lines : Lines) (part core : ℕ) (act : Told) → snapshot_of tally held ≡ now → lines ≡ record held.lines { who = part } → Turns (record held { lines = lines }) new core act
     → IsTurned now new part core act
-turned_as held new now lines part core act view l t =
-    subst (λ (s : Snapshot). IsTurned s new part core act) view (turned_lent held new part core act (subst (λ (ls : Lines). Turns (record held { lines = ls }) new core act) l t))
+turned_as {tally} held new now lines part core act view l t =
+    subst (λ (s : Snapshot). IsTurned s new part core act) view (turned_lent tally held new part core act (subst (λ (ls : Lines). Turns (record held { lines = ls }) new core act) l t))

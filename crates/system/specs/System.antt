@@ -12,6 +12,7 @@ use Rattle.partition.specs.Machine.{Machine, fresh_inner, most_steps}
 use Rattle.partition.specs.Lending.{Part, machine_of}
 use Rattle.network.specs.Network.{Network, no_desc}
 use Rattle.network.specs.World.{Counts, World, counts_at}
+use Rattle.network.specs.Tally.{Tally}
 use Rattle.network.specs.Turn.{is_running}
 use Rattle.system.specs.Board.{Lines, channel_at, console_room, ends_of, wires_at}
 use Rattle.system.specs.Wired.{all_wires, console_side, regions_of}
@@ -57,16 +58,17 @@ are_parts_at_rest parts = list_all (λ (part : Part). not (is_running part.inner
 unfoldable pub machines_of : Held → List Machine
 machines_of held = map (machine_in held) (range_with_len 0 (length held.parts))
 
--- the network, and the world that it is in
+abbrev pub world_of : Held → World
+world_of held = record { machines = machines_of held; consoles = held.counts }
+
+-- the network, the world that it is in, and what its steps came to so far
 pub record Snapshot : Type 0 where
   pub network : Network
   pub world : World
+  pub tally : Tally
 
-abbrev pub snapshot_of : Held → Snapshot
-snapshot_of held = record {
-  network = network_of held;
-  world = record { machines = machines_of held; consoles = held.counts };
-}
+abbrev pub snapshot_of : Tally → Held → Snapshot
+snapshot_of tally held = record { network = network_of held; world = world_of held; tally = tally }
 
 -- ---- what it keeps
 
@@ -86,6 +88,11 @@ pub record IsCounted (parts : List Part) (lines : Lines) (counts : List Counts) 
   pub steps : (part : ℕ) → part < length parts → (part_at parts part).inner.steps ≤ most_steps
   pub printed : (console : ℕ) → (counts_at counts console).printed ≤ 16 * total_steps parts
   pub entered : (console : ℕ) → (counts_at counts console).entered + console_room lines console ≤ most_waiting * (total_steps parts + 1)
+
+-- a step has at most one line, and sends at most 16 bytes
+pub record IsTallied (parts : List Part) (tally : Tally) : Type 0 where
+  pub lines : tally.lines ≤ total_steps parts
+  pub sent : tally.sent ≤ 16 * total_steps parts
 
 -- The partitions are joined by the wiring, their handles lead to what it says, and each partition's regions have their extents.
 pub record IsSystem (held : Held) : Type 0 where

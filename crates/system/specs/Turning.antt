@@ -32,7 +32,7 @@ use Rattle.network.specs.World.{Counts, counts_at, machine_at}
 use Rattle.network.specs.Effects.{count_printed}
 use Rattle.system.specs.Board.{Lines, emptied_lines, fed_by, last_of, managed_by, own_ends, own_kinds, own_wire, printed_by, told_by, Copies, Sends, Takes}
 use Rattle.network.specs.Turn.{done_by, steps_in}
-use Rattle.system.specs.System.{Held, most_counted, part_at, machine_by, network_of, machines_of, snapshot_of, IsSystem}
+use Rattle.system.specs.System.{Held, most_counted, part_at, machine_by, network_of, machines_of, world_of, total_steps, IsSystem}
 
 -- the partition that the board was lent to did a step of a core, but for what it copied into another one
 pub record AfterStep (before after : List Member) (old_memory new_memory : List (List ℕ)) (old new : Lines) (core : ℕ) (act : Told) (ranges : List Wrote) : Type 0 where
@@ -169,11 +169,13 @@ pub record Asks (wiring : Wiring) (act : Told) (parts : List Member) (memory : L
 pub record Turns (old new : Held) (core : ℕ) (act : Told) : Type 0 where
   pub system : IsSystem new
   pub network : network_of new ≡ network_of old
-  pub world : (snapshot_of new).world ≡ (steps_in (network_of old) old.lines.who core (snapshot_of old).world).after
+  pub world : world_of new ≡ (steps_in (network_of old) old.lines.who core (world_of old)).after
   pub pieces : List Piece
   pub did : (done_by (network_of old) (machines_of old) old.lines.who core).act ≡ act_of pieces act
   pub total : HasTotal pieces act
+  pub bytes : HasBytes act
   pub counted : (part : ℕ) → (machine_at (machines_of new) part).inner.steps ≤ (machine_at (machines_of old) part).inner.steps + 1
+  pub rises : total_steps new.parts ≡ total_steps old.parts + 1
 
 -- the others heard of a step's stores, and then the act was settled
 pub record Follows (wiring : Wiring) (who : ℕ) (act : Told) (stored : List Wrote) (parts rung : List Member) (memory loaded : List (List ℕ)) (lines left : Lines) (counts new : List Counts) : Type 0 where

@@ -22,6 +22,7 @@ mod ringing;
 mod seat;
 mod show;
 mod system;
+mod tally;
 mod turning;
 mod wire;
 mod wiring;

@@ -11,6 +11,7 @@ ghost use Rattle.network.specs.Turn.{core_turn, done_by, steps_in};
 ghost use Rattle.network.specs.Entering.{count_entered, enter};
 ghost use Rattle.network.specs.Laws.{are_at_rest};
 ghost use Rattle.network.specs.Report.{act_lines, end_lines};
+ghost use Rattle.network.specs.Tally.{after_lines, no_tally};
 ghost use Rattle.system.specs.Board.{console_at, console_room, sent_by};
 ghost use Rattle.system.specs.Wired.{channel_wire};
 ghost use Rattle.system.specs.Shown.{IsDeedOf, Waits, deed_line, shown};
@@ -24,6 +25,7 @@ use crate::ends::{write_consoles, write_parts};
 use crate::rest::all_rest;
 use crate::seat::{Seat, find_seat, owners_of};
 use crate::show::Show;
+use crate::tally::Tally;
 use crate::turning::step_all;
 use ground::Ground;
 use machine_desc::{Act, Desc, State, Wiring};
@@ -32,8 +34,8 @@ use partition::Partition;
 use std::alloc::Global;
 use std::marker::Model;
 
-/// Partitions over one real memory, with the channels and consoles that join them. Contracts see the network that they are
-/// and the world that it is in. Only `build` takes memory.
+/// Partitions over one real memory, with the channels and consoles that join them. Contracts see the network that they are,
+/// the world that it is in, and what its steps came to so far. Only `build` takes memory.
 #[derive(Drop)]
 pub struct System {
     parts: Vec<Partition>,
@@ -43,15 +45,16 @@ pub struct System {
     counts: Vec<Counts>,
     /// By physical number, the partition whose core it is.
     owners: Vec<Option<usize>>,
+    tally: Tally,
 }
 
 impl Model for System {
     ghost use Rattle.system.specs.Seats.{AreOwners};
-    ghost use Rattle.system.specs.System.{Snapshot, IsSystem, descs_of, snapshot_of};
+    ghost use Rattle.system.specs.System.{Snapshot, IsSystem, IsTallied, descs_of, snapshot_of};
 
     ghost Value = { Snapshot };
 
-    ghost view = { λ system. snapshot_of (record {
+    ghost view = { λ system. snapshot_of system.tally (record {
       parts = system.parts.items;
       memory = system.memory;
       lines = system.board;
@@ -65,7 +68,7 @@ impl Model for System {
       lines = system.board;
       wiring = system.wiring;
       counts = system.counts.items;
-    }) × AreOwners system.owners.items (descs_of system.parts.items) };
+    }) × (AreOwners system.owners.items (descs_of system.parts.items) × IsTallied system.parts.items system.tally) };
 }
 
 impl System {
@@ -78,6 +81,7 @@ impl System {
         ensures opening { IfOk result (λ system. system ≡ record {
           network = record { descs = descs.items; wiring = wiring };
           world = opening_world (record { descs = descs.items; wiring = wiring });
+          tally = no_tally;
         }) }
     {
         let board = Board::new(alloc, descs.as_slice(), &wiring)?;
@@ -92,6 +96,7 @@ impl System {
             wiring,
             counts,
             owners,
+            tally: Tally::new(),
         })
     }
 
@@ -114,6 +119,7 @@ impl System {
         ensures world { self.new.world ≡ (core_turn self.old.network (Some core) self.old.world).after }
         ensures lines { Writes result (S.taken out.old) (S.taken out.new) (S.faults out.old) (S.faults out.new)
             (shown show self.old.network (core_turn self.old.network (Some core) self.old.world).lines) }
+        ensures tally { self.new.tally ≡ after_lines (core_turn self.old.network (Some core) self.old.world).lines self.old.tally }
         ensures counted { (part : ℕ) → (machine_at self.new.world.machines part).inner.steps ≤ (machine_at self.old.world.machines part).inner.steps + 1 }
     {
         let deed = self.turn_of(core);
@@ -149,6 +155,20 @@ impl System {
         self.counts[console].entered()
     }
 
+    /// How many lines the steps since the first turn have, shown or not.
+    pub fn lines(&self) -> u64
+        ensures { result ≡ self.now.tally.lines }
+    {
+        self.tally.lines()
+    }
+
+    /// How many bytes partitions sent since the first turn, to one another and to consoles.
+    pub fn sent(&self) -> u64
+        ensures { result ≡ self.now.tally.sent }
+    {
+        self.tally.sent()
+    }
+
     /// Whether no partition runs.
     pub fn is_at_rest(&self) -> bool
         ensures { result ≡ are_at_rest self.now.world.machines }
@@ -163,6 +183,7 @@ impl System {
         ensures world { self.new.world ≡ (core_turn self.old.network (Some number) self.old.world).after }
         ensures deed { IsDeedOf (length self.old.network.descs) result }
         ensures line { deed_line self.old.network.descs result ≡ act_lines self.old.network (core_turn self.old.network (Some number) self.old.world).lines }
+        ensures tally { self.new.tally ≡ after_lines (core_turn self.old.network (Some number) self.old.world).lines self.old.tally }
         ensures counted { (part : ℕ) → (machine_at self.new.world.machines part).inner.steps ≤ (machine_at self.old.world.machines part).inner.steps + 1 }
     {
         let Seat { part, core } = find_seat(self.parts.as_slice(), self.owners.as_slice(), number)?;
@@ -183,6 +204,7 @@ impl System {
         ensures world { self.new.world ≡ (steps_in self.old.network part core self.old.world).after }
         ensures part { result.part ≡ part }
         ensures line { deed_line self.old.network.descs (Some result) ≡ act_lines self.old.network (steps_in self.old.network part core self.old.world).lines }
+        ensures tally { self.new.tally ≡ after_lines (steps_in self.old.network part core self.old.world).lines self.old.tally }
         ensures counted { (part : ℕ) → (machine_at self.new.world.machines part).inner.steps ≤ (machine_at self.old.world.machines part).inner.steps + 1 }
     {
         let step = self.parts[part].steps() + 1;
@@ -195,6 +217,7 @@ impl System {
             &self.wiring,
             core,
         );
+        self.tally.count(&act);
         Deed { part, step, act }
     }
 }

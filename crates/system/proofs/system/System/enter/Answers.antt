@@ -51,5 +51,5 @@ returns-clause-entered c =
       counts = c.self.inside.counts.items;
     } in
     let here : c.args.console < length held.wiring.consoles = subst (λ (now : Snapshot). c.args.console < length now.network.wiring.consoles) (sym c.self.view_is) c.requires.console in
-    (entered_from held c.args.console c.enter_at.result c.args.bytes.now c.enter_at.new.board c.enter_at.new.counts.items c.self.invariant.0 here c.enter_at.ensures.count c.enter_at.ensures.board c.enter_at.ensures.counts).view
+    (entered_from held c.args.console c.enter_at.result c.args.bytes.now c.enter_at.new.board c.enter_at.new.counts.items c.self.invariant.0 here c.enter_at.ensures.count c.enter_at.ensures.board c.enter_at.ensures.counts).view c.self.inside.tally
     ∙ ap (λ (now : Snapshot). let next : Snapshot = record now { world = (enter now.network c.args.console c.args.bytes.now now.world).after } in next) c.self.view_is
