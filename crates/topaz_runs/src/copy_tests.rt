@@ -1,7 +1,14 @@
 //! What no clause says of copies between partitions: what is written of runs in which a manager copies memory.
 
 use crate::run_tests::{order, short_bundle, writes};
-use outside::NoMemory;
+use lone_runs::guests::{
+    AT_GRANULE, BEHIND_GRANULE, Deed, EDGE, Guest, HOLDER, INTO, LIST, NOTHING, OUT_OF, SELF,
+    SHOWS, STORES, THREE_ENTRIES, TWELVE_LISTS, TWO_ENTRIES, image_of,
+};
+use lone_runs::reports::{
+    COPIED_BEFORE, COPIED_IN, COPIED_OUT, LISTS_LOOKED_AT, NOT_COPIED, RESERVATION_KEPT,
+    RESERVATION_LOST,
+};
 use std::alloc::Global;
 use std::test::Fail;
 
@@ -91,47 +98,6 @@ const CHAIN: &str = ".channels
 ...handles
 ....c kind=channel target=z";
 
-/// The handle of the caller itself.
-const SELF: u32 = 0xFFFF_FFFF;
-
-/// Where the list of a guest lies in its image.
-const LIST: u32 = 0x400;
-
-/// What a guest does next.
-#[derive(Clone, Copy)]
-enum Deed {
-    /// Copies, by what r3 to r7 hold, in 13 steps.
-    Copy([u32; 5]),
-    /// Sends what the call before it answered in r3, in 6 steps.
-    Answer,
-    /// Stores a word at an address, in 5 steps.
-    Store(u32, u32),
-    /// Sends so many bytes from an address on, eight at most, in 9 steps.
-    Send(u32, u32),
-    /// Reserves an address, in 3 steps.
-    Reserve(u32),
-    /// Stores there if the reservation holds, and sends the condition register, in 7 steps.
-    Conclude,
-    /// Starts the partition of handle 2 at 0, and has its memory stay, in 11 steps.
-    Start,
-}
-
-/// An entry of a list: the address that is read, the address that is written, and how many bytes.
-type Entry = (u64, u64, u64);
-
-/// What a guest does, and the list in its image.
-#[derive(Clone, Copy)]
-struct Guest {
-    deeds: &'static [Deed],
-    list: &'static [Entry],
-}
-
-/// One that does nothing.
-const NOTHING: Guest = Guest {
-    deeds: &[],
-    list: &[],
-};
-
 /// A run: its configuration, its guests, the turns of its cores, how many turns it has, and what is written.
 type Run = (
     &'static str,
@@ -140,95 +106,6 @@ type Run = (
     &'static str,
     &'static str,
 );
-
-/// Puts a number into a general register.
-fn put(words: &mut Vec<u32>, register: u32, number: u32) -> Result<(), NoMemory> {
-    words.push(0x3C00_0000 | register << 21 | number >> 16)?; // lis
-    words.push(0x6000_0000 | register << 21 | register << 16 | number & 0xFFFF)?; // ori
-    Ok(())
-}
-
-/// Puts these into r3 and those behind it, and calls by a token.
-fn put_call(words: &mut Vec<u32>, token: u32, args: &[u32]) -> Result<(), NoMemory> {
-    put(words, 11, token)?;
-    let mut register = 3u32;
-    for number in args {
-        put(words, register, *number)?;
-        register = register.wrapping_add(1);
-    }
-    words.push(0x4400_0022)?; // sc 1
-    Ok(())
-}
-
-/// The instructions of a deed.
-fn put_deed(words: &mut Vec<u32>, deed: Deed) -> Result<(), NoMemory> {
-    match deed {
-        Deed::Copy(args) => put_call(words, 0x2_0008, &args)?,
-        Deed::Answer => {
-            words.push(0x7C65_1B78)?; // mr r5,r3
-            put_sent(words, 4)?;
-        }
-        Deed::Store(at, word) => {
-            put(words, 9, at)?;
-            put(words, 10, word)?;
-            words.push(0x9149_0000)?; // stw r10,0(r9)
-        }
-        Deed::Send(at, count) => {
-            put(words, 9, at)?;
-            words.push(0x80A9_0000)?; // lwz r5,0(r9)
-            words.push(0x80C9_0004)?; // lwz r6,4(r9)
-            put_sent(words, count)?;
-        }
-        Deed::Reserve(at) => {
-            put(words, 9, at)?;
-            words.push(0x7D40_4828)?; // lwarx r10,0,r9
-        }
-        Deed::Conclude => {
-            words.push(0x7D40_492D)?; // stwcx. r10,0,r9
-            words.push(0x7CA0_0026)?; // mfcr r5
-            put_sent(words, 4)?;
-        }
-        Deed::Start => put_call(words, 0x2_0006, &[2, 0, 0, 0])?,
-    }
-    Ok(())
-}
-
-/// Sends so many bytes of r5 and r6 on handle 1.
-fn put_sent(words: &mut Vec<u32>, count: u32) -> Result<(), NoMemory> {
-    words.push(0x3D60_0001)?; // lis r11,1
-    words.push(0x616B_0001)?; // ori r11,r11,1
-    words.push(0x3860_0001)?; // li r3,1
-    words.push(0x3880_0000 | count)?; // li r4
-    words.push(0x4400_0022)?; // sc 1
-    Ok(())
-}
-
-/// The two words of a number.
-fn put_long(words: &mut Vec<u32>, number: u64) -> Result<(), NoMemory> {
-    words.push((number >> 32) as u32)?;
-    words.push((number & 0xFFFF_FFFF) as u32)?;
-    Ok(())
-}
-
-/// The image of a guest: its instructions, of which the last one is a branch to itself, and its list.
-fn image_of(alloc: Global, guest: Guest) -> Result<Vec<u32>, NoMemory> {
-    let mut words = Vec::new(alloc);
-    for deed in guest.deeds {
-        put_deed(&mut words, *deed)?;
-    }
-    words.push(0x4800_0000)?; // b .
-    for _word in words.len()..0x100 {
-        words.push(0u32)?;
-    }
-    for &(source, target, size) in guest.list {
-        put_long(&mut words, source)?;
-        put_long(&mut words, target)?;
-        put_long(&mut words, size)?;
-        // what isn't looked at
-        put_long(&mut words, 0xA5A5_A5A5_5A5A_5A5A)?;
-    }
-    Ok(words)
-}
 
 /// The first of the runs that is written otherwise.
 fn first_wrong(alloc: Global, runs: &[Run]) -> Result<Option<usize>, Fail> {
@@ -251,50 +128,18 @@ static DONE: [Run; 8] = [
     // into the managed partition, from the edge of two regions to that of two others
     (
         PAIR,
-        &[
-            Guest {
-                deeds: &[
-                    Deed::Store(0xFFFC, 0x4142_4344),
-                    Deed::Store(0x1_0000, 0x4546_4748),
-                    Deed::Copy([SELF, 2, LIST, 0, 1]),
-                    Deed::Answer,
-                ],
-                list: &[(0xFFFC, 0xFFFC, 8)],
-            },
-            Guest {
-                deeds: &[Deed::Send(0xFFFC, 8)],
-                list: &[],
-            },
-            NOTHING,
-        ],
+        &[INTO, EDGE, NOTHING],
         &[(b'0', 29), (b'1', 9)],
         "38",
-        "p 23 copy to 2 8\np 29 sent 1 00000000\nq 9 sent 1 4142434445464748\nend p running 29\nend q running 9\nconsole cp 4 0 0\nconsole cq 8 0 0\n",
+        COPIED_IN,
     ),
     // out of it, over the same edges
     (
         PAIR,
-        &[
-            Guest {
-                deeds: &[
-                    Deed::Copy([2, SELF, LIST, 0, 1]),
-                    Deed::Answer,
-                    Deed::Send(0xFFFC, 8),
-                ],
-                list: &[(0xFFFC, 0xFFFC, 8)],
-            },
-            Guest {
-                deeds: &[
-                    Deed::Store(0xFFFC, 0x4142_4344),
-                    Deed::Store(0x1_0000, 0x4546_4748),
-                ],
-                list: &[],
-            },
-            NOTHING,
-        ],
+        &[OUT_OF, STORES, NOTHING],
         &[(b'1', 10), (b'0', 28)],
         "38",
-        "p 13 copy from 2 8\np 19 sent 1 00000000\np 28 sent 1 4142434445464748\nend p running 28\nend q running 10\nconsole cp 12 0 0\nconsole cq 0 0 0\n",
+        COPIED_OUT,
     ),
     // two managed partitions, each by its handle
     (
@@ -309,14 +154,8 @@ static DONE: [Run; 8] = [
                 ],
                 list: &[(0x200, 0x300, 4), (0x204, 0x300, 4)],
             },
-            Guest {
-                deeds: &[Deed::Send(0x300, 8)],
-                list: &[],
-            },
-            Guest {
-                deeds: &[Deed::Send(0x300, 8)],
-                list: &[],
-            },
+            SHOWS,
+            SHOWS,
         ],
         &[(b'0', 36), (b'1', 9), (b'2', 9)],
         "54",
@@ -425,10 +264,7 @@ static DONE: [Run; 8] = [
                 ],
                 list: &[(0x200, 0x300, 4), (0x204, 0x302, 4)],
             },
-            Guest {
-                deeds: &[Deed::Send(0x300, 8)],
-                list: &[],
-            },
+            SHOWS,
             NOTHING,
         ],
         &[(b'0', 23), (b'1', 9)],
@@ -442,46 +278,18 @@ static LIMITS: [Run; 6] = [
     // three entries, of which the last one writes where nothing is private: nothing is moved
     (
         PAIR,
-        &[
-            Guest {
-                deeds: &[
-                    Deed::Store(0x200, 0x4141_4141),
-                    Deed::Copy([SELF, 2, LIST, 0, 3]),
-                    Deed::Answer,
-                ],
-                list: &[(0x200, 0x300, 4), (0x204, 0x304, 4), (0x208, 0x2_0000, 4)],
-            },
-            Guest {
-                deeds: &[Deed::Send(0x300, 8)],
-                list: &[],
-            },
-            NOTHING,
-        ],
+        &[THREE_ENTRIES, SHOWS, NOTHING],
         &[(b'0', 24), (b'1', 9)],
         "33",
-        "p 24 sent 1 00000006\nq 9 sent 1 0000000000000000\nend p running 24\nend q running 9\nconsole cp 4 0 0\nconsole cq 8 0 0\n",
+        NOT_COPIED,
     ),
     // the first two of them
     (
         PAIR,
-        &[
-            Guest {
-                deeds: &[
-                    Deed::Store(0x200, 0x4141_4141),
-                    Deed::Copy([SELF, 2, LIST, 0, 2]),
-                    Deed::Answer,
-                ],
-                list: &[(0x200, 0x300, 4), (0x204, 0x304, 4), (0x208, 0x2_0000, 4)],
-            },
-            Guest {
-                deeds: &[Deed::Send(0x300, 8)],
-                list: &[],
-            },
-            NOTHING,
-        ],
+        &[TWO_ENTRIES, SHOWS, NOTHING],
         &[(b'0', 24), (b'1', 9)],
         "33",
-        "p 18 copy to 2 8\np 24 sent 1 00000000\nq 9 sent 1 4141414100000000\nend p running 24\nend q running 9\nconsole cp 4 0 0\nconsole cq 8 0 0\n",
+        COPIED_BEFORE,
     ),
     // as many entries as there may be, which end where the caller's memory does; the last one has bytes
     (
@@ -508,47 +316,13 @@ static LIMITS: [Run; 6] = [
         "48",
         "p 33 copy to 2 4\np 39 sent 1 00000000\nq 9 sent 1 61616161\nend p running 39\nend q running 9\nconsole cp 4 0 0\nconsole cq 4 0 0\n",
     ),
-    // First the handles and the number of entries: both are the caller, none is, a channel, none that there is, none at all; no
-    // entry, which is done, and one too many. Then where the list is: behind a handle that is wrong, behind the memory, across
-    // its end, above 32 bits, and too long for it.
+    // First the handles and the number of entries, then where the list is.
     (
         PAIR,
-        &[
-            Guest {
-                deeds: &[
-                    Deed::Copy([SELF, SELF, LIST, 0, 1]),
-                    Deed::Answer,
-                    Deed::Copy([2, 2, LIST, 0, 1]),
-                    Deed::Answer,
-                    Deed::Copy([SELF, 1, LIST, 0, 1]),
-                    Deed::Answer,
-                    Deed::Copy([SELF, 3, LIST, 0, 1]),
-                    Deed::Answer,
-                    Deed::Copy([0, SELF, LIST, 0, 1]),
-                    Deed::Answer,
-                    Deed::Copy([SELF, 2, LIST, 0, 0]),
-                    Deed::Answer,
-                    Deed::Copy([2, SELF, LIST, 0, 1025]),
-                    Deed::Answer,
-                    Deed::Copy([SELF, 1, 0x2_0000, 0, 1]),
-                    Deed::Answer,
-                    Deed::Copy([SELF, 2, 0x2_0000, 0, 1]),
-                    Deed::Answer,
-                    Deed::Copy([SELF, 2, 0x1_FFF0, 0, 1]),
-                    Deed::Answer,
-                    Deed::Copy([SELF, 2, LIST, 1, 1]),
-                    Deed::Answer,
-                    Deed::Copy([SELF, 2, 0x1_8020, 0, 1024]),
-                    Deed::Answer,
-                ],
-                list: &[(0, 0, 0)],
-            },
-            NOTHING,
-            NOTHING,
-        ],
+        &[TWELVE_LISTS, NOTHING, NOTHING],
         &[(b'0', 228)],
         "228",
-        "p 19 sent 1 00000008\np 38 sent 1 00000008\np 57 sent 1 00000008\np 76 sent 1 00000008\np 95 sent 1 00000008\np 114 sent 1 00000000\np 133 sent 1 00000008\np 152 sent 1 00000008\np 171 sent 1 00000006\np 190 sent 1 00000006\np 209 sent 1 00000006\np 228 sent 1 00000006\nend p running 228\nend q running 0\nconsole cp 48 0 0\nconsole cq 0 0 0\n",
+        LISTS_LOOKED_AT,
     ),
     // Then the entries' sum, and last where their bytes are: a byte too many, as many as there may be, a sum above 64 bits; the
     // last byte of the target and one more, what is not the source's, the source's last bytes, which are not the managed
@@ -633,43 +407,23 @@ static LIMITS: [Run; 6] = [
     ),
 ];
 
-/// The guest that reserves a word, and stores there if the reservation holds.
-const HOLDER: Guest = Guest {
-    deeds: &[Deed::Reserve(0x240), Deed::Conclude],
-    list: &[],
-};
-
 /// What becomes of reservations, whose granules have 64 bytes: 20000000 is sent where one held, and 0 where it was lost.
 static RESERVED: [Run; 8] = [
     // a copy into the granule's last word
     (
         PAIR,
-        &[
-            Guest {
-                deeds: &[Deed::Copy([SELF, 2, LIST, 0, 1])],
-                list: &[(0x200, 0x27C, 4)],
-            },
-            HOLDER,
-            NOTHING,
-        ],
+        &[AT_GRANULE, HOLDER, NOTHING],
         &[(b'1', 3), (b'0', 13), (b'1', 7)],
         "23",
-        "p 13 copy to 2 4\nq 10 sent 1 00000000\nend p running 13\nend q running 10\nconsole cp 0 0 0\nconsole cq 4 0 0\n",
+        RESERVATION_LOST,
     ),
     // behind it
     (
         PAIR,
-        &[
-            Guest {
-                deeds: &[Deed::Copy([SELF, 2, LIST, 0, 1])],
-                list: &[(0x200, 0x280, 4)],
-            },
-            HOLDER,
-            NOTHING,
-        ],
+        &[BEHIND_GRANULE, HOLDER, NOTHING],
         &[(b'1', 3), (b'0', 13), (b'1', 7)],
         "23",
-        "p 13 copy to 2 4\nq 10 sent 1 20000000\nend p running 13\nend q running 10\nconsole cp 0 0 0\nconsole cq 4 0 0\n",
+        RESERVATION_KEPT,
     ),
     // from before it into its first two bytes, by the second entry
     (
@@ -699,7 +453,7 @@ static RESERVED: [Run; 8] = [
         ],
         &[(b'1', 3), (b'0', 13), (b'1', 7)],
         "23",
-        "p 13 copy to 2 4\nq 10 sent 1 20000000\nend p running 13\nend q running 10\nconsole cp 0 0 0\nconsole cq 4 0 0\n",
+        RESERVATION_KEPT,
     ),
     // one that is refused, and one out of the granule
     (
@@ -773,12 +527,6 @@ static RESERVED: [Run; 8] = [
         "p 13 copy to 2 4\nq 10 sent 1 00000000\nr 10 sent 1 20000000\nend p running 13\nend q running 10\nend r running 10\nconsole cp 0 0 0\nconsole cq 4 0 0\nconsole cr 4 0 0\n",
     ),
 ];
-
-/// The first copy that is done: the image of `q`, into which it goes, and what is written.
-pub fn into_managed(alloc: Global) -> Result<(Vec<u32>, &'static str), NoMemory> {
-    let (_, [_, guest, _], _, _, text) = &DONE[0];
-    Ok((image_of(alloc, *guest)?, *text))
-}
 
 #[test]
 fn managers_copy_memory(rt: HostRuntime) -> Result<(), Fail> {

@@ -1,8 +1,8 @@
 //! Calls of `topaz` whose answers were worked out by hand, as tests: what no clause says of it.
 //!
 //! They stand in a crate of their own, since a crate with tests is proved twice. Each test makes its files in memory: blobs
-//! of trees in a short form, images of words, scripts as text. Some partitions of these runs are beside it machines by
-//! themselves, fed by hand.
+//! of trees in a short form, images of words, scripts as text. The images and the reports that single partitions are looked
+//! at by too are those of `lone_runs`.
 #![tactic(auto)]
 
 #[cfg(test)]
@@ -14,17 +14,11 @@ mod check_blobs;
 #[cfg(test)]
 mod check_tests;
 #[cfg(test)]
-mod control_images;
-#[cfg(test)]
 mod control_tests;
 #[cfg(test)]
 mod copy_tests;
 #[cfg(test)]
-mod images;
-#[cfg(test)]
-mod lone;
-#[cfg(test)]
-mod lone_tests;
+mod gen_tests;
 #[cfg(test)]
 mod manager_tests;
 #[cfg(test)]

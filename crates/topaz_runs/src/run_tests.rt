@@ -2,9 +2,10 @@
 
 use crate::bundles::blob;
 use crate::check_tests::{answer, hardware, two};
-use crate::images::{
+use lone_runs::images::{
     CLOCK, ECHO, FILL, HEAR, HELLO, HOLD, LOOK, PASS, RING, START, TAKE, UNBACKED,
 };
+use lone_runs::reports::{BOTH_SEND, ECHOED, FILLED, HEARD, ONE_SENDS, UNHEARD};
 use outside::{Bytes, MemFiles, MemSink, NamedFile, NoMemory};
 use std::alloc::Global;
 use std::test::Fail;
@@ -327,17 +328,10 @@ fn scripts_give_turns_and_bytes(rt: HostRuntime) -> Result<(), Fail> {
     for _line in 0..5 {
         much.push_str(line)?;
     }
-    let both =
-        "p 6 sent 1 4869\nq 6 sent 1 4869\nend p running 6\nend q running 6\nconsole cp 2 0 0\nconsole cq 2 0 0\n";
     for (image, script, turns, text) in [
-        (HELLO.as_slice(), "order 0 1", "12", both),
-        (&HELLO, "", "12", both),
-        (
-            &HELLO,
-            "order 0 0 1\n",
-            "12",
-            "p 6 sent 1 4869\nend p running 8\nend q running 4\nconsole cp 2 0 0\nconsole cq 0 0 0\n",
-        ),
+        (HELLO.as_slice(), "order 0 1", "12", BOTH_SEND),
+        (&HELLO, "", "12", BOTH_SEND),
+        (&HELLO, "order 0 0 1\n", "12", ONE_SENDS),
         // nobody owns the core
         (
             &HELLO,
@@ -416,21 +410,6 @@ fn scripts_give_turns_and_bytes(rt: HostRuntime) -> Result<(), Fail> {
 #[test]
 fn partitions_reach_each_other_as_they_are_joined(rt: HostRuntime) -> Result<(), Fail> {
     let alloc = rt.alloc();
-    let zeros = "00000000000000000000000000000000";
-    let mut filled = String::new(alloc);
-    for step in [
-        "11", "15", "19", "23", "27", "31", "35", "39", "43", "47", "51", "55", "59", "63", "67",
-        "71",
-    ] {
-        filled.push_str("p ")?;
-        filled.push_str(step)?;
-        filled.push_str(" sent 1 ")?;
-        filled.push_str(zeros)?;
-        filled.push_str("\n")?;
-    }
-    filled.push_str(
-        "p 80 sent 2 0000000400000000\np 88 sent 2 00000005\nend p running 88\nend q running 5\nconsole cp 12 0 0\n",
-    )?;
     for (config, images, turns, total, text) in [
         // a full channel, and then room for what was taken
         (
@@ -438,7 +417,7 @@ fn partitions_reach_each_other_as_they_are_joined(rt: HostRuntime) -> Result<(),
             [FILL.as_slice(), &TAKE, &[]],
             [(b'0', 80), (b'1', 5), (b'0', 8)].as_slice(),
             "93",
-            filled.as_str(),
+            FILLED,
         ),
         // what one sends another has in the same turn
         (
@@ -461,15 +440,9 @@ fn partitions_reach_each_other_as_they_are_joined(rt: HostRuntime) -> Result<(),
             [&RING, &HEAR, &[]],
             &[(b'0', 1), (b'1', 1)],
             "30",
-            "p 4 ring 2\nq 14 sent 1 00000002\nend p running 15\nend q running 15\nconsole cp 0 0 0\nconsole cq 4 0 0\n",
+            HEARD,
         ),
-        (
-            RUNG,
-            [&RING, &HEAR, &[]],
-            &[(b'1', 1)],
-            "15",
-            "q 14 sent 1 0000ffff\nend p running 0\nend q running 15\nconsole cp 0 0 0\nconsole cq 4 0 0\n",
-        ),
+        (RUNG, [&RING, &HEAR, &[]], &[(b'1', 1)], "15", UNHEARD),
     ] {
         let list = short_bundle(alloc, config, images, order(alloc, turns)?)?;
         assert!(rt; writes(alloc, "config", list, total, text)?, "{text}");
@@ -542,11 +515,7 @@ fn one_partition_is_not_reached_by_others(rt: HostRuntime) -> Result<(), Fail> {
                 own.push(b'\n')?;
             }
         }
-        assert_eq!(rt;
-            own.as_slice(),
-            b"p 12 sent 1 41424344\np 25 sent 1 45\nend p running 100\nconsole cp 5 5 0\n".as_slice(),
-            "{seed}"
-        );
+        assert_eq!(rt; own.as_slice(), ECHOED.as_bytes(), "{seed}");
     }
     Ok(())
 }

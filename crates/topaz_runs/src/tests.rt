@@ -1,6 +1,6 @@
 //! What no clause says: that the texts are those that were worked out by hand, and that a call succeeds
 //! where memory is ample.
-use crate::images::*;
+use lone_runs::images::*;
 use outside::{Bytes, MemFiles, MemSink, NamedFile, NoMemory, SureFiles};
 use std::alloc::{AllocError, Global};
 use std::test::Fail;
@@ -9,7 +9,13 @@ use topaz_run::{Status, topaz};
 const HELLO_TEXT: &str = "guest 6 sent 1 4869\nend guest running 7\nconsole con 2 0 0\n";
 
 /// Lists of words that are of no form, with bars between the words.
-const OUT_OF_FORM: [&str; 27] = [
+const OUT_OF_FORM: [&str; 33] = [
+    "gen",
+    "gen|1",
+    "gen|1|0|0",
+    "gen|18446744073709551616|0",
+    "gen|01|0",
+    "gen|1|1000000000001",
     "check|image",
     "check|image|image|image",
     "Check|image|image",

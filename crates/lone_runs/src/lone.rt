@@ -1,4 +1,4 @@
-//! A partition's machine by itself, fed with what its network would give it.
+//! A partition's machine by itself, given what comes to it in a run.
 
 ghost use Rattle.std.specs.Prelude.{◌≡◌, true, length};
 ghost use Rattle.machine_desc.specs.Joined.{has_at};
@@ -12,22 +12,43 @@ use std::alloc::Global;
 use std::test::Fail;
 use trace_text::{act_line, end_line};
 
-/// A partition in short: its name, the sizes of its private regions, which lie side by side from 0 on, what its handles are,
-/// the words of its image, which lies at 0, and what its copies bring out of the partition that it manages.
+/// What a handle is.
+#[derive(Clone, Copy)]
+pub enum Handle<'a> {
+    Channel,
+    Send,
+    Receive,
+    /// A partition that begins held or not, and the sizes of its private regions, which lie side by side from 0 on.
+    Manage(bool, &'a [u32]),
+}
+
+/// A partition in short: its name, the sizes of its private regions, which lie side by side from 0 on, its handles, the words
+/// of its image, which lies at 0, whether it begins held, and what its copies bring out of the partitions that it manages.
 #[derive(Clone, Copy)]
 pub struct Lone<'a> {
     pub name: &'a str,
     pub regions: &'a [u32],
-    pub handles: &'a [Kind],
+    pub handles: &'a [Handle<'a>],
     pub image: &'a [u32],
+    pub held: bool,
     pub feed: &'a [u8],
 }
 
-/// Behind how many of its own steps something happens to it, and what.
+/// Behind how many of its own steps something comes to it, and what.
 pub type Coming = (u64, Event<'static>);
 
-/// The extents of real memory, in bytes.
-const EXTENTS: [u32; 2] = [0x1_0000, 0x1000];
+/// What is written, and the place among what comes of the first that can't come, where there is one. The end is behind all.
+#[derive(Drop)]
+pub struct Told {
+    pub out: MemSink,
+    pub refused: Option<usize>,
+}
+
+/// The extents of real memory, in bytes: for two regions in their order, and for a small one.
+const EXTENTS: [u32; 3] = [0x1_0000, 0x1_0000, SMALL];
+
+/// The size of a small region.
+const SMALL: u32 = 0x1000;
 
 /// More steps than any machine may do.
 const LIMIT: u64 = 1_000_000_000_000;
@@ -46,56 +67,60 @@ fn piece_of(alloc: Global, image: &[u32]) -> Result<Piece, NoMemory> {
     })
 }
 
-/// Its regions, one extent each. Their real addresses mean nothing to a machine by itself.
+/// Its regions. Their real addresses mean nothing to a machine by itself.
 fn regions_of(alloc: Global, sizes: &[u32]) -> Result<Listed<Region>, NoMemory> {
     let mut regions = Listed::new(alloc);
     let mut logical = 0u64;
-    let mut extent = 0u32;
+    let mut next = 0u32;
     for &size in sizes {
         regions.push(Region {
             logical,
             size,
-            extent,
+            extent: if size == SMALL { 2 } else { next },
             real: 0,
             private: true,
         })?;
         logical = logical.saturating_add(u64::from(size));
-        extent = extent.saturating_add(1);
+        next = next.saturating_add(1);
     }
     Ok(regions)
 }
 
-/// A partition that runs and has a private region of 64 KiB.
-fn managed_port(alloc: Global) -> Result<Port, NoMemory> {
+/// A partition that it manages.
+fn managed_port(alloc: Global, held: bool, sizes: &[u32]) -> Result<Port, NoMemory> {
     let mut private = Listed::new(alloc);
-    private.push(Span {
-        at: 0,
-        size: 0x1_0000,
-    })?;
+    let mut at = 0u64;
+    for &size in sizes {
+        private.push(Span {
+            at,
+            size: u64::from(size),
+        })?;
+        at = at.saturating_add(u64::from(size));
+    }
     Ok(Port::Manage {
         part: 1,
-        held: false,
+        held,
         private,
     })
 }
 
 /// Its ports, whose interrupts count from 0.
-fn ports_of(alloc: Global, handles: &[Kind]) -> Result<Listed<Port>, NoMemory> {
+fn ports_of(alloc: Global, handles: &[Handle]) -> Result<Listed<Port>, NoMemory> {
     let mut ports = Listed::new(alloc);
     let mut next = 0u8;
     for handle in handles {
-        match handle {
-            Kind::Channel => {
+        match *handle {
+            Handle::Channel => {
                 let tx = next.saturating_add(1);
                 ports.push(Port::Channel { rx: next, tx })?;
                 next = next.saturating_add(2);
             }
-            Kind::Send => ports.push(Port::Send)?,
-            Kind::Receive => {
+            Handle::Send => ports.push(Port::Send)?,
+            Handle::Receive => {
                 ports.push(Port::Receive { irq: next })?;
                 next = next.saturating_add(1);
             }
-            Kind::Manage => ports.push(managed_port(alloc)?)?,
+            Handle::Manage(held, sizes) => ports.push(managed_port(alloc, held, sizes)?)?,
         }
     }
     Ok(ports)
@@ -113,7 +138,7 @@ fn desc_of(alloc: Global, lone: &Lone) -> Result<Desc, NoMemory> {
         tree_at: 0x8000,
         tree_size: 0x4000,
         entry: 0,
-        held: false,
+        held: lone.held,
         pieces,
     })
 }
@@ -165,6 +190,18 @@ fn give(machine: &mut LoneMachine, handle: u32, bytes: &[u8]) -> Option<()> {
     }
 }
 
+/// The other end of a channel took so many of the bytes that are outstanding there.
+fn free(machine: &mut LoneMachine, handle: u32, count: u16) -> Option<()> {
+    let mut taken = [0; 256];
+    match kind_at(machine.desc().ports.as_slice(), handle) {
+        Some(Kind::Channel) if count <= machine.outstanding(handle) && count <= 256 => {
+            machine.free(handle, &mut taken[..count as usize]);
+            Some(())
+        }
+        _ => None,
+    }
+}
+
 /// A doorbell rings that the handle receives.
 fn ring(machine: &mut LoneMachine, handle: u32) -> Option<()> {
     match kind_at(machine.desc().ports.as_slice(), handle) {
@@ -176,12 +213,36 @@ fn ring(machine: &mut LoneMachine, handle: u32) -> Option<()> {
     }
 }
 
-/// Its manager starts it at an entry that an instruction can lie at.
+/// The partition that a handle manages runs now, or doesn't.
+fn tell(machine: &mut LoneMachine, handle: u32, running: bool) -> Option<()> {
+    match kind_at(machine.desc().ports.as_slice(), handle) {
+        Some(Kind::Manage) => {
+            machine.tell(handle, running);
+            Some(())
+        }
+        _ => None,
+    }
+}
+
+/// Its manager starts it, where it doesn't run, at an entry that an instruction can lie at.
 fn start(machine: &mut LoneMachine, entry: u32, load: bool) -> Option<()> {
-    if entry % 4 != 0 {
+    if runs(machine) || entry % 4 != 0 {
         return None;
     }
     machine.start(entry, load);
+    Some(())
+}
+
+/// Its manager stops or restarts it, where it runs.
+fn halt(machine: &mut LoneMachine, again: bool) -> Option<()> {
+    if !runs(machine) {
+        return None;
+    }
+    if again {
+        machine.restart();
+    } else {
+        machine.stop();
+    }
     Some(())
 }
 
@@ -194,71 +255,79 @@ fn copy_in(machine: &mut LoneMachine, at: u64, bytes: &[u8]) -> Option<()> {
     Some(())
 }
 
-/// What happens to it between two steps. Nobody tells it of a partition that it manages, and room comes by itself, as `step`
-/// says.
+/// What comes to it between two steps, where it can come.
 fn come(machine: &mut LoneMachine, event: Event) -> Option<()> {
     match event {
         Event::Bytes { h, bytes } => give(machine, h, bytes),
+        Event::Room { h, count } => free(machine, h, count),
         Event::Ring { h } => ring(machine, h),
         Event::Start { entry, load } => start(machine, entry, load),
-        Event::Stop => {
-            machine.stop();
-            Some(())
-        }
-        Event::Restart => {
-            machine.restart();
-            Some(())
-        }
+        Event::Stop => halt(machine, false),
+        Event::Restart => halt(machine, true),
         Event::CopyIn { at, bytes } => copy_in(machine, at, bytes),
-        Event::Room { .. } | Event::State { .. } => None,
+        Event::State { h, running } => tell(machine, h, running),
     }
 }
 
-/// One step, where the machine runs. What it sends leaves room again at once: a console takes it so, and none of the machines
-/// here asks how much room there is before another partition has taken what it was sent.
-fn step(machine: &mut LoneMachine) -> Result<Acts, Fail> {
-    let core = machine.place_of(0).ok_or("there is a core")?;
-    if !matches!(machine.state(), State::Running) || machine.steps() >= LIMIT {
-        return Err("it runs".into());
+/// Whether it does steps.
+fn runs(machine: &LoneMachine) -> bool
+    ensures { result ≡ true → machine.now.machine.inner.state ≡ State.Running }
+{
+    matches!(machine.state(), State::Running)
+}
+
+/// One step, where the machine runs. None where what it copies out of a partition isn't as long as what it is fed with.
+fn step(machine: &mut LoneMachine, fed: usize) -> Option<Acts> {
+    let core = machine.place_of(0)?;
+    if !runs(machine) || machine.steps() >= LIMIT {
+        return None;
     }
     let acts = machine.step(core);
-    if let Act::Sent { h, bytes } = &acts.act {
-        let mut taken = [0; 16];
-        machine.free(*h, &mut taken[..bytes.len()]);
+    match acts.act {
+        Act::CopyFrom { total, .. } if total as usize != fed => None,
+        _ => Some(acts),
     }
-    Ok(acts)
 }
 
-/// Its steps up to this number of them, and their lines.
-fn go_on(
-    machine: &mut LoneMachine,
-    out: &mut MemSink,
-    name: &[u8],
-    number: u64,
-) -> Result<(), Fail> {
+/// Does its steps up to this number of them, and writes their lines. None where it does none, or has done more.
+fn go_on(machine: &mut LoneMachine, out: &mut MemSink, lone: &Lone, number: u64) -> Option<()> {
+    if machine.steps() > number {
+        return None;
+    }
     for _step in machine.steps()..number {
-        let acts = step(machine)?;
-        act_line(out, name, machine.steps(), &acts.act)
-            .ok()
-            .ok_or("the line is written")?;
+        let acts = step(machine, lone.feed.len())?;
+        act_line(out, lone.name.as_bytes(), machine.steps(), &acts.act).ok()?;
     }
-    Ok(())
+    Some(())
 }
 
-/// What is written of the machine by itself, along what comes to it and up to so many of its own steps.
-pub fn lines(alloc: Global, lone: &Lone, comings: &[Coming], steps: u64) -> Result<MemSink, Fail> {
-    let name = lone.name.as_bytes();
+/// What is told of the machine by itself, along what comes to it and up to so many of its own steps.
+pub fn follow(alloc: Global, lone: &Lone, comings: &[Coming], steps: u64) -> Result<Told, Fail> {
     let mut machine = machine_of(alloc, lone)?;
-    let mut out = MemSink::new(alloc, 1000, Vec::new(alloc))?;
-    for &(number, event) in comings {
-        go_on(&mut machine, &mut out, name, number)?;
-        come(&mut machine, event).ok_or("this can come")?;
+    let mut out = MemSink::new(alloc, 2000, Vec::new(alloc))?;
+    for (place, &(number, event)) in comings.iter().enumerate() {
+        let reached = go_on(&mut machine, &mut out, lone, number);
+        if reached.is_none() || come(&mut machine, event).is_none() {
+            return Ok(Told {
+                out,
+                refused: Some(place),
+            });
+        }
     }
-    go_on(&mut machine, &mut out, name, steps)?;
-    end_line(&mut out, name, machine.state(), machine.steps())
+    let mut refused = None;
+    if go_on(&mut machine, &mut out, lone, steps).is_none() {
+        refused = Some(comings.len());
+    } else {
+        end_line(
+            &mut out,
+            lone.name.as_bytes(),
+            machine.state(),
+            machine.steps(),
+        )
         .ok()
         .ok_or("the line is written")?;
-    Ok(out)
+    }
+    Ok(Told { out, refused })
 }
 
 /// The lines of the name in a report, those that tell of its deeds and of its end.
