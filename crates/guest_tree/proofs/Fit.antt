@@ -20,7 +20,8 @@ use Rattle.dt_model.specs.Node.{property_token}
 use Rattle.dt_model.specs.Rule.{first_broken, broken_by_begin}
 use Rattle.config_descs.specs.Desc.{interrupts_of, desc_of}
 use Rattle.guest_tree.specs.Properties.{root_properties, cpus_properties, cpu_properties, memory_properties, pic_properties, hypervisor_properties, kind_properties, handle_properties, bootargs_properties, stdout_properties, is_channel, chosen_properties}
-use Rattle.guest_tree.specs.Tokens.{node, cpu_tokens, cpus_tokens, memory_tokens, pic_tokens, handle_tokens, hypervisor_tokens, chosen_tokens, children_tokens, guest_tokens}
+use Rattle.dt_make.specs.Nodes.{node}
+use Rattle.guest_tree.specs.Tokens.{cpu_tokens, cpus_tokens, memory_tokens, pic_tokens, handle_tokens, hypervisor_tokens, chosen_tokens, children_tokens, guest_tokens}
 use Rattle.guest_tree.proofs.Checked.{Open, is_some_open, empty, with_child, passes, passing, root-holds, passes-append}
 
 -- what stands beside the root

@@ -26,7 +26,8 @@ use Rattle.config_rules.specs.Accepted.{IsAccepted}
 use Rattle.config_rules.specs.Parts.{is_small, has_window}
 use Rattle.config_rules.specs.Laws.{AcceptedKeepParts}
 use Rattle.guest_tree.specs.Properties.{root_properties}
-use Rattle.guest_tree.specs.Tokens.{node, cpus_tokens, memory_tokens, pic_tokens, hypervisor_tokens, chosen_tokens, children_tokens, guest_tokens}
+use Rattle.dt_make.specs.Nodes.{node}
+use Rattle.guest_tree.specs.Tokens.{cpus_tokens, memory_tokens, pic_tokens, hypervisor_tokens, chosen_tokens, children_tokens, guest_tokens}
 use Rattle.guest_tree.specs.Guest.{HasSpinRoom, IsGuestTree, guest_blob}
 use Rattle.guest_tree.specs.Laws.{largest_blob}
 use Rattle.guest_tree.proofs.Made.{five-nodes}

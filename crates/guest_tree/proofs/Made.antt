@@ -1,47 +1,14 @@
 -- The tokens of nodes that are made.
-use Rattle.std.proofs.Common.{◌≡◌, ℕ, zero, suc, ◌+◌, List, [], ◌∷◌, ◌++◌, map, refl, sym, ap, ◌∙◌, arith, append_assoc, append-nil}
-use Rattle.std.specs.List.{flat_map, range_with_len}
-use Rattle.std.proofs.lemmas.Grind.{flat_map-append}
+use Rattle.std.proofs.Common.{◌≡◌, List, [], ◌∷◌, ◌++◌, ap, ◌∙◌, append_assoc, append-nil}
+use Rattle.std.specs.List.{flat_map}
 use Rattle.dt_model.specs.declared.tree.Node.{Node}
-use Rattle.dt_model.specs.declared.tree.Node.TheOpen.{Node-F}
-use Rattle.dt_model.specs.declared.tree.Node.TheViews.{roll-Node}
-use Rattle.dt_model.specs.declared.tree.Node.TheFolds.{fold-roll-Node}
-use Rattle.dt_model.specs.Token.{Token, BeginNode, EndNode}
-use Rattle.dt_model.specs.Node.{property_token, tokens_step, node_tokens}
-use Rattle.guest_tree.specs.Tokens.{node}
-
-flat_map-mapped : (nodes : List Node) → flat_map (λ tokens. tokens) (map node_tokens nodes) ≡ flat_map node_tokens nodes
-flat_map-mapped [] = refl
-flat_map-mapped (node ∷ nodes) = ap (λ (tokens : List Token). node_tokens node ++ tokens) (flat_map-mapped nodes)
-
-pub node_made : (x : Node-F Node) → node_tokens (roll-Node x) ≡ node x.name x.props.items (flat_map node_tokens x.children.items)
-node_made x =
-    fold-roll-Node (List Token) tokens_step x
-    ∙ ap (λ (tokens : List Token). BeginNode x.name ∷ (map property_token x.props.items ++ (tokens ++ EndNode ∷ []))) (flat_map-mapped x.children.items)
+use Rattle.dt_model.specs.Token.{Token}
+use Rattle.dt_model.specs.Node.{node_tokens}
 
 -- ---- lists that grow
 
 pub pushed-twice : {X : Type 0} (xs ys zs : List X) (x y : X) → ys ≡ xs ++ x ∷ [] → zs ≡ ys ++ y ∷ [] → zs ≡ xs ++ x ∷ y ∷ []
 pushed-twice {X} xs ys zs x y e f = f ∙ ap (λ (l : List X). l ++ y ∷ []) e ∙ append_assoc xs (x ∷ []) (y ∷ [])
-
-range-more : {X : Type 0} (f : ℕ → List X) (first count : ℕ) → flat_map f (range_with_len first (count + 1)) ≡ flat_map f (range_with_len first count) ++ f (first + count)
-range-more {X} f first zero = append-nil (f first) ∙ ap f (omega arith)
-range-more {X} f first (suc count) =
-    let longer : suc count + 1 ≡ suc (count + 1) = omega arith in
-    let last : first + 1 + count ≡ first + suc count = omega arith in
-    ap (λ n. flat_map f (range_with_len first n)) longer
-    ∙ ap (λ (l : List X). f first ++ l) (range-more f (first + 1) count)
-    ∙ sym (append_assoc (f first) (flat_map f (range_with_len (first + 1) count)) (f (first + 1 + count)))
-    ∙ ap (λ n. (f first ++ flat_map f (range_with_len (first + 1) count)) ++ f n) last
-
--- one more core's node
-pub core-more : (f : ℕ → List Token) (before after : List Node) (node : Node) (core : ℕ) → flat_map node_tokens before ≡ flat_map f (range_with_len 0 core)
-    → after ≡ before ++ node ∷ [] → node_tokens node ≡ f core → flat_map node_tokens after ≡ flat_map f (range_with_len 0 (core + 1))
-core-more f before after node core e items is =
-    ap (flat_map node_tokens) items ∙ flat_map-append node_tokens before (node ∷ [])
-    ∙ ap (λ (tokens : List Token). tokens ++ (node_tokens node ++ [])) e
-    ∙ ap (λ (tokens : List Token). flat_map f (range_with_len 0 core) ++ tokens) (append-nil (node_tokens node) ∙ is ∙ ap f (omega arith))
-    ∙ sym (range-more f 0 core)
 
 pub five-nodes : (a b c d e : Node) → flat_map node_tokens (a ∷ b ∷ c ∷ d ∷ e ∷ []) ≡ node_tokens a ++ (node_tokens b ++ (node_tokens c ++ (node_tokens d ++ node_tokens e)))
 five-nodes a b c d e = ap (λ (tokens : List Token). node_tokens a ++ (node_tokens b ++ (node_tokens c ++ (node_tokens d ++ tokens)))) (append-nil (node_tokens e))

@@ -11,7 +11,8 @@ use Rattle.dt_model.specs.Token.{Token, BeginNode, EndNode, Finish}
 use Rattle.dt_model.specs.Node.{Row, NodeRow, PropertyRow, property_token, path_of, rows_inside, rows_in}
 use Rattle.config_descs.specs.Desc.{interrupts_of, desc_of}
 use Rattle.guest_tree.specs.Properties.{root_properties, cpus_properties, cpu_name, cpu_properties, memory_properties, pic_properties, hypervisor_properties, handle_properties, handle_path, chosen_properties}
-use Rattle.guest_tree.specs.Tokens.{node, cpu_tokens, cpus_tokens, memory_tokens, pic_tokens, handle_tokens, hypervisor_tokens, chosen_tokens, children_tokens, guest_tokens}
+use Rattle.dt_make.specs.Nodes.{node}
+use Rattle.guest_tree.specs.Tokens.{cpu_tokens, cpus_tokens, memory_tokens, pic_tokens, handle_tokens, hypervisor_tokens, chosen_tokens, children_tokens, guest_tokens}
 use Rattle.guest_tree.specs.Rows.{node_rows, cpu_rows, cpus_rows, handle_rows, handles_rows, guest_rows}
 
 abbrev property_rows : List ℕ → List Property → List Row

@@ -22,7 +22,8 @@ use Rattle.dt_model.specs.Token.{Token, EndNode, Finish}
 use Rattle.dt_model.specs.Node.{property_token}
 use Rattle.config_descs.specs.Desc.{interrupts_of, desc_of}
 use Rattle.guest_tree.specs.Properties.{root_properties, cpus_properties, cpu_name, start_properties, spin_properties, cpu_properties, range_of, hypervisor_properties, kind_properties, handle_properties, handle_path, bootargs_properties, stdout_properties, is_channel, chosen_properties}
-use Rattle.guest_tree.specs.Tokens.{node, cpu_tokens, cpus_tokens, memory_tokens, pic_tokens, handle_tokens, hypervisor_tokens, chosen_tokens, children_tokens, guest_tokens}
+use Rattle.dt_make.specs.Nodes.{node}
+use Rattle.guest_tree.specs.Tokens.{cpu_tokens, cpus_tokens, memory_tokens, pic_tokens, handle_tokens, hypervisor_tokens, chosen_tokens, children_tokens, guest_tokens}
 use Rattle.guest_tree.proofs.Sizes.{weights, weights-append}
 
 abbrev property_weights : List Property → ℕ

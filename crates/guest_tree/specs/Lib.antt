@@ -1,4 +1,3 @@
-pub mod Values
 pub mod Properties
 pub mod Tokens
 pub mod Rows

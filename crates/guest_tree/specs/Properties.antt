@@ -12,7 +12,7 @@ use Rattle.machine_desc.specs.Sound.{spin_at}
 use Rattle.dt_model.specs.declared.tree.Property.{Property}
 use Rattle.config_checks.specs.Found.{size_of}
 use Rattle.config_descs.specs.Wired.{same_kind}
-use Rattle.guest_tree.specs.Values.{cell, cells, double, text, property}
+use Rattle.dt_make.specs.Values.{cell, cells, double, text, property}
 
 -- ---- the root, and the node over the cores
 

@@ -1,19 +1,14 @@
 -- The guest tree as the tokens of a structure block (ePAPR 1.1, 8.4 "Structure Block").
-use Rattle.std.specs.Prelude.{ℕ, ◌+◌, List, [], ◌∷◌, ◌++◌, length, map, codes}
+use Rattle.std.specs.Prelude.{ℕ, ◌+◌, List, [], ◌∷◌, ◌++◌, length, codes}
 use Rattle.std.specs.List.{flat_map, range_with_len}
 use Rattle.hv_config.specs.declared.config.HandleDef.{HandleDef}
 use Rattle.hv_config.specs.declared.config.PartDef.{PartDef}
 use Rattle.hv_config.specs.declared.config.Config.{Config}
 use Rattle.machine_desc.specs.declared.desc.Desc.{Desc}
-use Rattle.dt_model.specs.declared.tree.Property.{Property}
-use Rattle.dt_model.specs.Token.{Token, BeginNode, EndNode, Finish}
-use Rattle.dt_model.specs.Node.{property_token}
+use Rattle.dt_model.specs.Token.{Token, Finish}
+use Rattle.dt_make.specs.Nodes.{node}
 use Rattle.config_descs.specs.Desc.{interrupts_of, desc_of}
 use Rattle.guest_tree.specs.Properties.{root_properties, cpus_properties, cpu_name, cpu_properties, memory_properties, pic_properties, hypervisor_properties, handle_properties, chosen_properties}
-
--- a node with its properties, and then its children's tokens
-abbrev pub node : List ℕ → List Property → List Token → List Token
-node name properties children = BeginNode name ∷ (map property_token properties ++ (children ++ EndNode ∷ []))
 
 abbrev pub cpu_tokens : Desc → ℕ → List Token
 cpu_tokens desc core = node (cpu_name core) (cpu_properties desc core) []

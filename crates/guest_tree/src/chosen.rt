@@ -6,8 +6,7 @@ ghost use Rattle.dt_model.specs.Node.{node_tokens};
 ghost use Rattle.guest_tree.specs.Properties as spec;
 ghost use Rattle.guest_tree.specs.Tokens as tokens;
 
-use crate::nodes::leaf;
-use crate::values::push_text;
+use dt_make::{leaf, push_text};
 use dt_model::{Node, Property};
 use hv_config::{HandleDef, Kind, PartDef};
 use outside::{Bytes, NoMemory};

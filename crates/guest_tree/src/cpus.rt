@@ -11,8 +11,7 @@ ghost use Rattle.guest_tree.specs.Guest.{HasSpinRoom};
 ghost use Rattle.guest_tree.specs.Properties as spec;
 ghost use Rattle.guest_tree.specs.Tokens as tokens;
 
-use crate::nodes::{leaf, node};
-use crate::values::{push_address, push_number, push_text};
+use dt_make::{leaf, node, push_address, push_number, push_text};
 use dt_model::{Node, Property};
 use hv_config::PartDef;
 use itoa::Buffer;

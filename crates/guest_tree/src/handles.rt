@@ -7,9 +7,9 @@ ghost use Rattle.dt_model.specs.Node.{node_tokens};
 ghost use Rattle.guest_tree.specs.Properties as spec;
 ghost use Rattle.guest_tree.specs.Tokens as tokens;
 
-use crate::nodes::{PIC_HANDLE, hypervisor_properties, leaf, node};
-use crate::values::{push, push_cell, push_number, push_text};
+use crate::nodes::{PIC_HANDLE, hypervisor_properties};
 use config_descs::interrupts_of;
+use dt_make::{leaf, node, push, push_cell, push_number, push_text};
 use dt_model::{Node, Property};
 use hv_config::{HandleDef, Kind, PartDef};
 use outside::NoMemory;

@@ -1,43 +1,18 @@
-//! Nodes, and those of a guest tree that stand alone.
+//! The nodes of a guest tree that stand alone.
 
 ghost use Rattle.std.specs.Prelude.{◌≡◌, [], ◌∷◌, ◌++◌, IfOk, OnOk};
 ghost use Rattle.std.specs.List.{flat_map};
 ghost use Rattle.dt_model.specs.Node.{node_tokens};
 ghost use Rattle.guest_tree.specs.Properties as spec;
 ghost use Rattle.guest_tree.specs.Tokens as tokens;
-ghost use Rattle.guest_tree.specs.Values as values;
+ghost use Rattle.dt_make.specs.Values as values;
 
-use crate::values::{push, push_cell, push_double, push_empty, push_number, push_text};
 use config_checks::size_of;
+use dt_make::{leaf, push, push_cell, push_double, push_empty, push_number, push_text};
 use dt_model::{Node, Property};
 use hv_config::{Config, GuestAreaDef, PartDef};
-use outside::{Bytes, NoMemory};
+use outside::NoMemory;
 use std::alloc::Global;
-
-/// A node with these properties and children.
-#[tactic(auto, using(crate::proofs::Made::node_made))]
-pub fn node(
-    alloc: Global,
-    name: &[u8],
-    props: Vec<Property>,
-    children: Vec<Node>,
-) -> Result<Node, NoMemory>
-    ensures { IfOk result (λ node. node_tokens node ≡ tokens.node name.now props.items (flat_map node_tokens children.items)) }
-{
-    let name = Bytes::of(alloc, name)?;
-    Ok(Node {
-        name,
-        props,
-        children,
-    })
-}
-
-/// A node without children.
-pub fn leaf(alloc: Global, name: &[u8], props: Vec<Property>) -> Result<Node, NoMemory>
-    ensures { IfOk result (λ node. node_tokens node ≡ tokens.node name.now props.items []) }
-{
-    node(alloc, name, props, Vec::new(alloc))
-}
 
 /// What the root says.
 pub fn root_properties(alloc: Global, part: &PartDef) -> Result<Vec<Property>, NoMemory>

@@ -8,7 +8,7 @@ use Rattle.dt_model.specs.declared.tree.Node.TheFolds.{ind-Node}
 use Rattle.dt_model.specs.declared.tree.Property.{Property}
 use Rattle.dt_model.specs.declared.tree.Tree.{Tree}
 use Rattle.dt_model.specs.Token.{Token, EndNode, Finish}
-use Rattle.dt_model.specs.Node.{property_token, node_tokens}
+use Rattle.dt_model.specs.Node.{property_token, node_tokens, tokens_of}
 use Rattle.dt_model.specs.Blob.{IsBlobOf}
 use Rattle.dt_model.proofs.Rules.{inside, node_tokens-roll}
 use Rattle.std.proofs.lemmas.List.{append-nil}
@@ -72,7 +72,11 @@ node-put = ind-Node Puts (λ x y is tokens part outer e. node-puts x tokens part
     (subst (λ (z : Node-F Node). (tokens : List Token) (part : Part) (outer : List Part) → parts_of tokens ≡ part ∷ outer
     → parts_of (flat_map node_tokens z.children.items ++ tokens) ≡ with_children (map remade z.children.items) part outer) is (children-put y.children.items)))
 
+-- the tokens of a tree say its root, made anew
+pub root-put : (tree : Tree) → first_child (parts_of (tokens_of tree)) ≡ remade tree.root
+root-put tree = ap first_child (node-put tree.root (Finish ∷ []) nothing [] refl)
+
 pub root-said : (bytes : List ℕ) (tree : Tree) → IsBlobOf bytes tree → (tree_said bytes).root ≡ remade tree.root
 unfolding tree_said
 root-said bytes tree blob =
-    ap (λ (ts : List Token). first_child (parts_of ts)) (found_of bytes tree blob).same ∙ ap first_child (node-put tree.root (Finish ∷ []) nothing [] refl)
+    ap (λ (ts : List Token). first_child (parts_of ts)) (found_of bytes tree blob).same ∙ root-put tree

@@ -1,6 +1,6 @@
 use Rattle.std.proofs.Common.{[], ◌∷◌, ◌++◌, codes, ap, ◌∙◌}
 use Rattle.std.proofs.lemmas.Result.{on_ok_weaker}
-use Rattle.guest_tree.specs.Values.{property, double}
+use Rattle.dt_make.specs.Values.{property, double}
 use Rattle.guest_tree.proofs.Made.{pushed-twice}
 use Rattle.guest_tree.proofs.cpus.push_spin.Goals as goal
 

@@ -1,5 +1,5 @@
 use Rattle.std.proofs.Common.{◌≡◌, take}
-use Rattle.guest_tree.specs.Values.{cells}
+use Rattle.dt_make.specs.Values.{cells}
 use Rattle.guest_tree.specs.Properties.{hypercall}
 use Rattle.guest_tree.proofs.nodes.hypercall.Given as goal
 

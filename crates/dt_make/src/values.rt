@@ -1,7 +1,7 @@
 //! Values of properties, and lists of properties.
 
 ghost use Rattle.std.specs.Prelude.{◌≡◌, [], ◌∷◌, ◌++◌, IfOk, OnOk};
-ghost use Rattle.guest_tree.specs.Values as spec;
+ghost use Rattle.dt_make.specs.Values as spec;
 
 use byteorder::{BigEndian, ByteOrder};
 use dt_model::Property;
@@ -95,5 +95,21 @@ pub fn push_address(
 {
     let mut value = Vec::new(alloc);
     push_double(&mut value, number)?;
+    push(alloc, properties, name, value)
+}
+
+/// Appends a property that is several numbers.
+pub fn push_numbers(
+    alloc: Global,
+    properties: &mut Vec<Property>,
+    name: &[u8],
+    numbers: &[u32],
+) -> Result<(), NoMemory>
+    ensures { OnOk result (properties.new.items ≡ properties.old.items ++ spec.property name.now (spec.cells numbers.now) ∷ []) }
+{
+    let mut value = Vec::new(alloc);
+    for number in numbers {
+        push_cell(&mut value, *number)?;
+    }
     push(alloc, properties, name, value)
 }

@@ -1,0 +1,4 @@
+pub mod Compute
+pub mod Scripts
+pub mod Accepted
+pub mod Images

@@ -1,0 +1,8 @@
+use Rattle.std.proofs.Common.{◌≡◌}
+use Rattle.std.specs.List.{flat_map}
+use Rattle.dt_model.specs.Node.{node_tokens}
+use Rattle.gen_load.specs.Tokens.{all, console_tokens}
+use Rattle.gen_load.proofs.config.consoles.Given as goal
+
+abbrev pub invariant-loop-place : goal.invariant-loop-place
+invariant-loop-place l = flat_map node_tokens l.nodes.items ≡ all console_tokens l.place
