@@ -22,6 +22,8 @@ use Rattle.hv_config.specs.Plain.{IsPlain}
 use Rattle.script.specs.Text.{lines_of as lines_in}
 use Rattle.script.specs.Fault.{Broken, first_broken as first_broken_line}
 use Rattle.topaz_run.specs.declared.setup.Setup.{Setup}
+use Rattle.topaz_run.specs.declared.telling.Telling.{Telling}
+use Rattle.topaz_run.specs.declared.telling.Telling.TheVariants.{Report}
 use Rattle.topaz_run.specs.Plan.{Outcome, Done, Plan, opened, refusal, outcome_of}
 use Rattle.topaz_run.specs.Imaging.{imaging, completed, completing, describing, image_fault}
 use Rattle.topaz_run.specs.Reported.{reported}
@@ -128,17 +130,17 @@ reported-done : (network : Network) (script : Script) (turns : ℕ) (text : List
 unfolding reported
 reported-done network script turns text e = cc
 
-following-done : (turns : ℕ) (setup : Setup) (descs : List Desc) (lines : List (List ℕ)) (broken : Option Broken) (text : List ℕ) → following turns setup descs lines broken ≡ Done text
-    → following turns setup descs lines None ≡ Done text
-following-done turns setup descs lines (Some broken) text e = absurd cc
-following-done turns setup descs lines None text e = e
+following-done : (telling : Telling) (turns : ℕ) (setup : Setup) (descs : List Desc) (lines : List (List ℕ)) (broken : Option Broken) (text : List ℕ) → following telling turns setup descs lines broken ≡ Done text
+    → following telling turns setup descs lines None ≡ Done text
+following-done telling turns setup descs lines (Some broken) text e = absurd cc
+following-done telling turns setup descs lines None text e = e
 
 scripted-done : (content : Content) (script : List ℕ) (turns : ℕ) (setup : Setup) (descs : List Desc) (text : List ℕ) → outcome_of content (scripted script turns setup descs) ≡ Done text
-    → following turns setup descs (lines_in (bytes_in content script)) None ≡ Done text
+    → following Report turns setup descs (lines_in (bytes_in content script)) None ≡ Done text
 scripted-done content script turns setup descs text e =
     let lines = lines_in (bytes_in content script) in
-    following-done turns setup descs lines (first_broken_line (names_for setup) lines) text
-    (opened-done (file_of content script) script (λ bytes. reporting turns setup descs (lines_in bytes)) text e)
+    following-done Report turns setup descs lines (first_broken_line (names_for setup) lines) text
+    (opened-done (file_of content script) script (λ bytes. reporting Report turns setup descs (lines_in bytes)) text e)
 
 -- ---- the whole
 

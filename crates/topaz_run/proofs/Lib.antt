@@ -11,6 +11,7 @@ pub mod Described
 pub mod Texts
 pub mod Imaged
 pub mod Done
+pub mod Told
 pub mod Rounds
 pub mod Stays
 pub mod Cores

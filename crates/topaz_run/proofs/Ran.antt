@@ -5,7 +5,7 @@ use Rattle.std.specs.Result.{MatchResult}
 use Rattle.outside.specs.Content.{Content}
 use Rattle.topaz_run.specs.declared.status.Status.{Status}
 use Rattle.topaz_run.specs.declared.status.Status.TheVariants as status
-use Rattle.topaz_run.specs.Words.{Command, Bare, Dtb, Check, Guest, Run}
+use Rattle.topaz_run.specs.Words.{Command, Bare, Dtb, Check, Guest, Run, Gen}
 use Rattle.topaz_run.specs.Plan.{Done, outcome_of}
 use Rattle.topaz_run.specs.Outcome.{plan_of}
 use Rattle.topaz_run.specs.Runs.{WritesRun, ReadsPlain}
@@ -17,6 +17,7 @@ writes-run law (Bare image turns) content text old new done plain wrote = tt
 writes-run law (Dtb file) content text old new done plain wrote = tt
 writes-run law (Check config hw) content text old new done plain wrote = tt
 writes-run law (Guest config hw name) content text old new done plain wrote = tt
+writes-run law (Gen number turns) content text old new done plain wrote = tt
 writes-run law (Run config hw script turns) content text old new done plain wrote = record {
   text = text;
   written = wrote;

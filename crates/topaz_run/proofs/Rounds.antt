@@ -117,7 +117,7 @@ one-turn network script number world = then-passed (turn network script number w
 
 pub record GoesOn (network : Network) (script : Script) (done : ℕ) (world : World) : Type 0 where
   pub after : (run network script (done + 1)).after ≡ (turn network script (done + 1) world).after
-  pub lines : act_lines network (run network script (done + 1)).lines ≡ act_lines network (run network script done).lines ++ act_lines network (turn network script (done + 1) world).lines
+  pub lines : (run network script (done + 1)).lines ≡ (run network script done).lines ++ (turn network script (done + 1) world).lines
 
 run-more : (network : Network) (script : Script) (done : ℕ) → run network script (done + 1) ≡ and_then (run network script done) (turn network script (done + 1))
 unfolding run
@@ -128,9 +128,6 @@ run-more network script done =
     ∙ ap (λ (n : ℕ). and_then (run network script done) (turns_from network script n 1)) same
     ∙ (λ i. and_then (run network script done) (λ w. one-turn network script (done + 1) w i))
 
-lines-append : (network : Network) (lines more : List Line) → act_lines network (lines ++ more) ≡ act_lines network lines ++ act_lines network more
-lines-append network lines more = flat_map-append (λ (line : Line). traced_line (desc_at network line.part).name line.traced) lines more
-
 pub goes_on : (network : Network) (script : Script) (done : ℕ) (world : World) → world ≡ (run network script done).after → GoesOn network script done world
 goes_on network script done world is =
     let first = run network script done in
@@ -139,8 +136,7 @@ goes_on network script done world is =
     let here : next first.after ≡ next world = ap next (sym is) in
     record {
       after = ap (λ (p : Passage). p.after) whole ∙ ap (λ (p : Passage). p.after) here;
-      lines = ap (λ (p : Passage). act_lines network p.lines) whole ∙ ap (λ (p : Passage). act_lines network (first.lines ++ p.lines)) here
-          ∙ lines-append network first.lines (next world).lines;
+      lines = ap (λ (p : Passage). p.lines) whole ∙ ap (λ (p : Passage). first.lines ++ p.lines) here;
     }
 
 -- turns that pass change nothing
@@ -245,16 +241,6 @@ pub steps_next : (number : ℕ) (before entered after : World) → StepsAtMost (
 steps_next number before entered after few some same more part = omega (arith, few part, some, same part, more part)
 
 -- ---- what the loops keep
-
-pub text_of : (network other : Network) (lines more : List Line) → network ≡ other → lines ≡ more → act_lines network lines ≡ act_lines other more
-text_of network other lines more same is = λ i. act_lines (same i) (is i)
-
--- no line is written whole at once
-pub nothing_written : {T E : Type 0} (network : Network) (lines : List Line) (v : T) (old : Option (List ℕ)) (now : ℕ) → [] ≡ lines
-    → Writes {T = T} {E = E} (Ok v) old old now now (act_lines network lines)
-nothing_written {T} {E} network lines v old now is =
-    subst (λ (lines : List Line). Writes {T = T} {E = E} (Ok v) old old now now (act_lines network lines)) is
-    (record { whole = Appends-nil old; front = no_front old []; counted = omega arith; failed = tt })
 
 -- what holds below a number and at it holds below the next
 pub one_more : (P : ℕ → Type 0) (n : ℕ) → ((k : ℕ) → k < n → P k) → P n → (k : ℕ) → k < n + 1 → P k

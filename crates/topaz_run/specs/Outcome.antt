@@ -1,5 +1,5 @@
 -- What the words mean over what the files contain, and which files they need.
-use Rattle.std.specs.Prelude.{ℕ, List, [], ◌∷◌, ◌++◌, map, Option, None, Some, nat_lt, length, codes, decimal, if◌then◌else◌}
+use Rattle.std.specs.Prelude.{ℕ, true, List, [], ◌∷◌, ◌++◌, map, Option, None, Some, nat_lt, length, codes, decimal, if◌then◌else◌}
 use Rattle.dt_model.specs.Fault.{first_fault}
 use Rattle.dt_model.specs.Canonical.{rewritten, most_bytes}
 use Rattle.outside.specs.Content.{Content}
@@ -16,14 +16,19 @@ use Rattle.config_descs.specs.Wired.{wiring_of}
 use Rattle.machine_desc.specs.declared.desc.Desc.{Desc}
 use Rattle.guest_tree.specs.Guest.{guest_blob}
 use Rattle.network.specs.Network.{Network}
+use Rattle.gen_load.specs.Draws.{count_of}
+use Rattle.gen_load.specs.Files.{images_of, script_text}
+use Rattle.gen_load.specs.Meant.{generated_config, generated_board}
 use Rattle.script.specs.declared.names.Names.{Names}
 use Rattle.script.specs.Text.{lines_of}
 use Rattle.script.specs.Course.{course_of}
 use Rattle.script.specs.Fault.{Broken, first_broken as first_broken_line}
 use Rattle.topaz_run.specs.declared.setup.Setup.{Setup}
-use Rattle.topaz_run.specs.Words.{Command, Bare, Dtb, Check, Guest, Run, command_of}
+use Rattle.topaz_run.specs.declared.telling.Telling.{Telling}
+use Rattle.topaz_run.specs.declared.telling.Telling.TheVariants.{Report, Summary}
+use Rattle.topaz_run.specs.Words.{Command, Bare, Dtb, Check, Guest, Run, Gen, command_of}
 use Rattle.topaz_run.specs.Text.{accepted_line, line_place}
-use Rattle.topaz_run.specs.Reported.{given_by, reported}
+use Rattle.topaz_run.specs.Reported.{given_by, reported, told}
 use Rattle.topaz_run.specs.Imaging.{imaging}
 use Rattle.topaz_run.specs.BuiltIn.{memory_size, built_in_network, built_in_names}
 use Rattle.topaz_run.specs.Plan.{Outcome, Misused, Lacking, Refused, Done, Plan, Ends, Opens, refusal, outcome_of, needs_of}
@@ -128,23 +133,44 @@ network_for setup descs = record { descs = descs; wiring = wiring_of setup.accep
 abbrev pub names_for : Setup → Names
 names_for setup = record { consoles = (wiring_of setup.accepted).consoles; cpus = map (λ (cpu : Cpu). cpu.number) setup.board.cpus }
 
--- by the first rule that the lines of the script break, or else the report
-abbrev pub following : ℕ → Setup → List Desc → List (List ℕ) → Option Broken → Outcome
-following turns setup descs lines (Some broken) = refusal (script_rule broken.number) (line_place broken.line)
-following turns setup descs lines None = reported (network_for setup descs) (given_by (course_of (names_for setup) lines)) turns
+-- by the first rule that the lines of the script break, or else what is told of the run
+abbrev pub following : Telling → ℕ → Setup → List Desc → List (List ℕ) → Option Broken → Outcome
+following telling turns setup descs lines (Some broken) = refusal (script_rule broken.number) (line_place broken.line)
+following telling turns setup descs lines None = told telling (network_for setup descs) (given_by (course_of (names_for setup) lines)) turns
 
-abbrev pub reporting : ℕ → Setup → List Desc → List (List ℕ) → Outcome
-reporting turns setup descs lines = following turns setup descs lines (first_broken_line (names_for setup) lines)
+abbrev pub reporting : Telling → ℕ → Setup → List Desc → List (List ℕ) → Outcome
+reporting telling turns setup descs lines = following telling turns setup descs lines (first_broken_line (names_for setup) lines)
 
 -- the script is read once the partitions are described
 abbrev pub scripted : List ℕ → ℕ → Setup → List Desc → Plan
-scripted script turns setup descs = Opens script script (λ bytes. Ends (reporting turns setup descs (lines_of bytes)))
+scripted script turns setup descs = Opens script script (λ bytes. Ends (reporting Report turns setup descs (lines_of bytes)))
 
 abbrev pub imaged : List ℕ → ℕ → Setup → Plan
 imaged script turns setup = imaging setup.accepted setup.accepted.parts [] (λ descs. scripted script turns setup descs)
 
 abbrev pub running : List ℕ → List ℕ → List ℕ → ℕ → Plan
 running config hw script turns = accepting config hw (λ setup. imaged script turns setup)
+
+-- ---- gen
+
+-- the files of the bundle that a number makes
+abbrev pub files_of : ℕ → Content
+files_of number = record { files = images_of number; others_are_empty = true }
+
+-- the run of the described partitions on the bundle's script
+abbrev pub summing : ℕ → ℕ → Setup → List Desc → Outcome
+summing number turns setup descs = reporting (Summary number) turns setup descs (lines_of (script_text number))
+
+abbrev pub supplied : ℕ → ℕ → Setup → Plan
+supplied number turns setup = imaging setup.accepted setup.accepted.parts [] (λ descs. Ends (summing number turns setup descs))
+
+-- the configuration of the bundle on its hardware, of so many partitions
+abbrev pub ruling : ℕ → (Setup → Plan) → Plan
+ruling count next = ruled next (generated_config count) (generated_board count) (first_broken (generated_config count) (generated_board count))
+
+-- The bundle goes through what the files of a run go through. No file is opened but its own.
+abbrev pub generated : ℕ → ℕ → Outcome
+generated number turns = outcome_of (files_of number) (ruling (count_of number) (λ setup. supplied number turns setup))
 
 -- ---- every command
 
@@ -155,6 +181,7 @@ plan_of (Dtb file) = Opens file file (λ bytes. Ends (dtb file bytes))
 plan_of (Check config hw) = checking config hw
 plan_of (Guest config hw name) = showing config hw name
 plan_of (Run config hw script turns) = running config hw script turns
+plan_of (Gen number turns) = Ends (generated number turns)
 
 abbrev pub outcome_if : Option Command → Content → Outcome
 outcome_if None content = Misused

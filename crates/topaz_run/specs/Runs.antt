@@ -17,7 +17,7 @@ use Rattle.network.specs.Lines.{lines_of}
 use Rattle.recording.specs.Fits.{fits}
 use Rattle.isolation.specs.Isolation.{record_of, prints}
 use Rattle.topaz_run.specs.declared.setup.Setup.{Setup}
-use Rattle.topaz_run.specs.Words.{Command, Bare, Dtb, Check, Guest, Run}
+use Rattle.topaz_run.specs.Words.{Command, Bare, Dtb, Check, Guest, Run, Gen}
 use Rattle.topaz_run.specs.Imaging.{completed}
 use Rattle.topaz_run.specs.Reported.{given_by}
 use Rattle.topaz_run.specs.Outcome.{network_for, names_for}
@@ -74,6 +74,7 @@ WritesRun (Some (Bare image turns)) content old new = ⊤
 WritesRun (Some (Dtb file)) content old new = ⊤
 WritesRun (Some (Check config hw)) content old new = ⊤
 WritesRun (Some (Guest config hw name)) content old new = ⊤
+WritesRun (Some (Gen number turns)) content old new = ⊤
 WritesRun (Some (Run config hw script turns)) content old new =
     WritesReport (network_in content config hw) (script_in content config hw script) turns old new
 
@@ -83,4 +84,5 @@ ReadsPlain (Bare image turns) content = ⊤
 ReadsPlain (Dtb file) content = ⊤
 ReadsPlain (Check config hw) content = ⊤
 ReadsPlain (Guest config hw name) content = ⊤
+ReadsPlain (Gen number turns) content = ⊤
 ReadsPlain (Run config hw script turns) content = IsPlain (setup_in content config hw).accepted

@@ -108,7 +108,7 @@ fn accept_on(alloc: Global, hw: &str, config: Config, bytes: &[u8]) -> Result<Se
 }
 
 /// Accepts the configuration on the hardware.
-fn accept_rules(alloc: Global, config: Config, board: Board) -> Result<Setup, Stop>
+pub fn accept_rules(alloc: Global, config: Config, board: Board) -> Result<Setup, Stop>
     requires { IsPlain config }
     ensures goes_on { IfOk result (λ setup.
         (next : SetupValue → Plan) → spec.ruled next config board (first_broken config board) ≡ next setup) }

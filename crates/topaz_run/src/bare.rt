@@ -12,6 +12,7 @@ use crate::read::read_word;
 use crate::refuse::refused;
 use crate::report::report;
 use crate::status::Stop;
+use crate::telling::Telling;
 use outside::{Bytes, Files};
 use script::Script;
 use std::alloc::Global;
@@ -43,7 +44,14 @@ fn run_image(alloc: Global, name: &str, image: &[u8], turns: u64) -> Result<Byte
     let wiring = wiring(alloc)?;
     let names = names(alloc)?;
     match Script::read(alloc, b"", &names) {
-        Ok(script) => report(alloc, descs.into_vec(), wiring, &script, turns),
+        Ok(script) => report(
+            alloc,
+            Telling::Report,
+            descs.into_vec(),
+            wiring,
+            &script,
+            turns,
+        ),
         // No line of an empty script breaks a rule.
         Err(_fault) => Err(Stop::NoMemory),
     }

@@ -30,4 +30,9 @@ pub enum Command<'a> {
         script: &'a str,
         turns: u64,
     },
+    /// The summary of the run of the bundle that the number makes, for so many turns.
+    Gen {
+        number: u64,
+        turns: u64,
+    },
 }

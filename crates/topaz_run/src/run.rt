@@ -20,6 +20,7 @@ use crate::refuse::refused_script;
 use crate::report::report;
 use crate::setup::Setup;
 use crate::status::Stop;
+use crate::telling::Telling;
 use config_rules::accepted_keep_parts;
 use hv_config::{Board, Cpu};
 use machine_desc::{Desc, Wiring};
@@ -86,12 +87,13 @@ fn run_described<F: Files>(
     ensures counted { F.faults files.old ≤ F.faults files.new }
 {
     let text = read_word(alloc, files, script)?;
-    run_script(alloc, turns, setup, descs, text.as_slice())
+    run_script(alloc, Telling::Report, turns, setup, descs, text.as_slice())
 }
 
-/// What the run of the described partitions on the script of this text writes.
-fn run_script(
+/// What is written of the run of the described partitions on the script of this text.
+pub fn run_script(
     alloc: Global,
+    telling: Telling,
     turns: u64,
     setup: &Setup,
     descs: Listed<Desc>,
@@ -99,7 +101,7 @@ fn run_script(
 ) -> Result<Bytes, Stop>
     requires few { turns ≤ most_turns }
     requires described { AreDescribed setup.now.accepted setup.now.accepted.parts descs }
-    ensures answer { Meets result (spec.reporting turns setup.now descs (lines_of text.now)) }
+    ensures answer { Meets result (spec.reporting telling turns setup.now descs (lines_of text.now)) }
     ensures no_fault { IfErr result (λ stop. stop ≢ Stop.ReadFault) }
 {
     described_partitions_are_joined();
@@ -108,7 +110,7 @@ fn run_script(
     let wiring = setup.accepted.wiring(alloc)?;
     let names = names_for(alloc, &wiring, &setup.board)?;
     match Script::read(alloc, text, &names) {
-        Ok(script) => report(alloc, descs.into_vec(), wiring, &script, turns),
+        Ok(script) => report(alloc, telling, descs.into_vec(), wiring, &script, turns),
         Err(fault) => Err(refused_script(alloc, fault)),
     }
 }

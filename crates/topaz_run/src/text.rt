@@ -4,7 +4,7 @@ ghost use Rattle.std.specs.Prelude.{◌≡◌, codes};
 ghost use Rattle.outside.specs.Pieces.{Writes};
 ghost use Rattle.trace_text.specs.Refusals.{refused_line};
 ghost use Rattle.topaz_run.specs.Outcome.{blob_rule, rule_text, script_rule};
-ghost use Rattle.topaz_run.specs.Text.{accepted_line, line_place};
+ghost use Rattle.topaz_run.specs.Text.{accepted_line, gen_line, line_place};
 
 use hv_config::Rule;
 use itoa::Buffer;
@@ -96,6 +96,37 @@ pub fn write_accepted<S: Sink>(
             channels_digits.format(channels).as_bytes(),
             b" ",
             bells_digits.format(bells).as_bytes(),
+            b"\n",
+        ],
+    )
+}
+
+/// Of a generated run its number, how many turns it had, how many lines its steps have, and how many bytes they sent.
+pub fn write_gen<S: Sink>(
+    out: &mut S,
+    number: u64,
+    turns: u64,
+    lines: u64,
+    sent: u64,
+) -> Result<(), Failed>
+    ensures { Writes result (S.taken out.old) (S.taken out.new) (S.faults out.old) (S.faults out.new)
+        (gen_line number turns lines sent) }
+{
+    let mut number_digits = Buffer::new();
+    let mut turns_digits = Buffer::new();
+    let mut lines_digits = Buffer::new();
+    let mut sent_digits = Buffer::new();
+    write_pieces(
+        out,
+        &[
+            b"gen ",
+            number_digits.format(number).as_bytes(),
+            b" ",
+            turns_digits.format(turns).as_bytes(),
+            b" lines ",
+            lines_digits.format(lines).as_bytes(),
+            b" sent ",
+            sent_digits.format(sent).as_bytes(),
             b"\n",
         ],
     )

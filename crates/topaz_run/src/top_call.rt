@@ -15,6 +15,7 @@ use crate::check::check;
 use crate::command::Command;
 use crate::deliver::deliver;
 use crate::dtb::dtb;
+use crate::generated::generated;
 use crate::guest::guest;
 use crate::laws::done_runs_print_alone;
 use crate::run::run;
@@ -91,6 +92,7 @@ fn answer<F: Files>(alloc: Global, command: Command<'_>, files: &mut F) -> Resul
             script,
             turns,
         } => run(alloc, files, config, hw, script, turns),
+        Command::Gen { number, turns } => generated(alloc, number, turns),
     }
 }
 

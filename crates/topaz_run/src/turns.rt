@@ -7,8 +7,8 @@ ghost use Rattle.network.specs.World.{opening_world};
 ghost use Rattle.network.specs.Entering.{enter, enter_all, waiting};
 ghost use Rattle.network.specs.Turn.{given_at, run, turn};
 ghost use Rattle.network.specs.Laws.{are_at_rest};
-ghost use Rattle.network.specs.Report.{act_lines};
-ghost use Rattle.system.specs.Shown.{Waits};
+ghost use Rattle.network.specs.Tally.{after_lines, no_tally, tally_of};
+ghost use Rattle.system.specs.Shown.{Waits, shown};
 ghost use Rattle.topaz_run.specs.Words.{most_turns};
 ghost use Rattle.topaz_run.specs.Reported.{given_by};
 ghost use Rattle.topaz_run.specs.Turns.{AllEntered, StepsAtMost};
@@ -65,12 +65,13 @@ fn enter_everywhere(system: &mut System, script: &Script, consoles: usize, turn:
     }
 }
 
-/// Does the turn of this number, and writes the line of what was done in it.
+/// Does the turn of this number, and writes the line of what was done in it, if it is to be shown.
 fn do_turn<S: Sink>(
     system: &mut System,
     script: &Script,
     consoles: usize,
     number: u64,
+    show: Show,
     out: &mut S,
 ) -> Result<(), Failed>
     requires system { length system.old.network.wiring.consoles ≡ consoles }
@@ -81,12 +82,13 @@ fn do_turn<S: Sink>(
     ensures network { system.new.network ≡ system.old.network }
     ensures world { system.new.world ≡ (turn system.old.network (given_by script.now) number system.old.world).after }
     ensures lines { Writes result (S.taken out.old) (S.taken out.new) (S.faults out.old) (S.faults out.new)
-        (act_lines system.old.network (turn system.old.network (given_by script.now) number system.old.world).lines) }
+        (shown show system.old.network (turn system.old.network (given_by script.now) number system.old.world).lines) }
+    ensures tally { system.new.tally ≡ after_lines (turn system.old.network (given_by script.now) number system.old.world).lines system.old.tally }
     ensures steps { StepsAtMost number system.new.world }
 {
     enter_everywhere(system, script, consoles, number);
     match script.core_at(number) {
-        Some(core) => system.turn(core, Show::Acts, out),
+        Some(core) => system.turn(core, show, out),
         None => Ok(()),
     }
 }
@@ -109,29 +111,32 @@ fn rests(system: &System, script: &Script, consoles: usize, turns: u64) -> bool
     true
 }
 
-/// Does so many turns, from the first on, and gathers the lines of what was done in them.
+/// Does so many turns, from the first on, and gathers the lines of what was done in them, if they are to be shown.
 pub fn run_turns(
     system: &mut System,
     script: &Script,
     consoles: usize,
     turns: u64,
+    show: Show,
     text: &mut Gathered,
 ) -> Result<(), Failed>
     requires opening { system.old.world ≡ opening_world system.old.network }
+    requires tally { system.old.tally ≡ no_tally }
     requires empty { text.old.text ≡ [] }
     requires system { length system.old.network.wiring.consoles ≡ consoles }
     requires script { length script.now.inputs ≡ consoles }
     requires few { turns ≤ most_turns }
     ensures network { system.new.network ≡ system.old.network }
     ensures world { OnOk result (system.new.world ≡ (run system.old.network (given_by script.now) turns).after) }
-    ensures lines { OnOk result (text.new.text ≡ act_lines system.old.network (run system.old.network (given_by script.now) turns).lines) }
+    ensures lines { OnOk result (text.new.text ≡ shown show system.old.network (run system.old.network (given_by script.now) turns).lines) }
+    ensures tally { OnOk result (system.new.tally ≡ tally_of (run system.old.network (given_by script.now) turns).lines) }
 {
     resting_networks_stay();
     for done in 0..turns {
         if done % LOOK == 0 && rests(system, script, consoles, turns) {
             break;
         }
-        do_turn(system, script, consoles, done + 1, text)?;
+        do_turn(system, script, consoles, done + 1, show, text)?;
     }
     Ok(())
 }

@@ -13,6 +13,6 @@ returns-clause-answer c =
     let given = given_at script c.args.turns in
     let waits : Waits system.network given system.world c.deref.result.now =
     subst (λ (counts : List ℕ). Waits system.network given system.world counts) (sym c.deref.ensures.value) c.in_ok-waiting.ensures.waiting in
-    ends_done system.network script c.args.turns system.world c.args.text.text c.end_text.result c.requires.world c.requires.acts
+    ends_done c.args.telling system.network script c.args.turns system.world c.args.text.text c.end_text.result c.requires.world c.requires.head
     (told_by c.end_text.result (λ given. Waits system.network given system.world c.deref.result.now) (λ given. c.args.text.text ++ end_lines system.network given system.world) given c.end_text.ensures.text waits)
     c.end_text.ensures.no_fault

@@ -27,10 +27,10 @@ report-requires-clause-inputs c = c.in-Ok.ensures.consoles ∙ ap (λ (names : N
 
 pub returns-in-Ok-clause-answer : goal.returns-in-Ok-clause-answer
 returns-in-Ok-clause-answer c =
-    follows_script c.args.turns c.args.setup.now c.args.descs c.into_vec.result.items c.in_ok-wiring.wiring c.in_ok-names.names c.in-Ok.script (lines_of c.args.text.now) c.report.result
+    follows_script c.args.telling c.args.turns c.args.setup.now c.args.descs c.into_vec.result.items c.in_ok-wiring.wiring c.in_ok-names.names c.in-Ok.script (lines_of c.args.text.now) c.report.result
     (names_by c.args.setup.now c.in_ok-wiring.wiring c.in_ok-names.names c.in_ok-wiring.ensures c.in_ok-names.ensures) c.in-Ok.ensures.kept c.in-Ok.ensures.said c.into_vec.ensures c.in_ok-wiring.ensures c.report.ensures.answer
 
 pub returns-in-Err-clause-answer : goal.returns-in-Err-clause-answer
 returns-in-Err-clause-answer c =
-    refuses_script c.args.turns c.args.setup.now c.args.descs c.in_ok-names.names (lines_of c.args.text.now) c.in-Err.fault c.refused_script.result
+    refuses_script c.args.telling c.args.turns c.args.setup.now c.args.descs c.in_ok-names.names (lines_of c.args.text.now) c.in-Err.fault c.refused_script.result
     (names_by c.args.setup.now c.in_ok-wiring.wiring c.in_ok-names.names c.in_ok-wiring.ensures c.in_ok-names.ensures) c.in-Err.ensures.refused c.refused_script.ensures.refusal

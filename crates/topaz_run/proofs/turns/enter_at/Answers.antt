@@ -12,5 +12,5 @@ returns-else-not-is_empty c =
     let system = c.args.system.now in
     let bytes = waiting (given_at (given_by c.args.script.now) c.args.turn c.args.console) system.world.consoles c.args.console in
     let none : bytes ≡ [] = sym c.waiting_bytes-bytes.ensures ∙ no_bytes c.waiting_bytes-bytes.result.now c.is_empty.result c.is_empty.ensures c.if-not-is_empty.false in
-    ap (λ (world : World). record { network = system.network; world = world })
+    ap (λ (world : World). record { network = system.network; world = world; tally = system.tally })
     (sym (ap (λ (p : Passage). p.after) (nothing-enters system.network c.args.console bytes system.world none)))

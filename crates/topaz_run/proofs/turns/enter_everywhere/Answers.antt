@@ -20,6 +20,7 @@ loop-console-preserved c =
     ap (λ (s : Snapshot). s.world) c.enter_at.ensures ∙ ap (λ (n : Network). (enter n console bytes here.world).after) kept.network in
     record {
       network = ap (λ (s : Snapshot). s.network) c.enter_at.ensures ∙ kept.network;
+      tally = ap (λ (s : Snapshot). s.tally) c.enter_at.ensures ∙ kept.tally;
       world = ap (λ (w : World). (enter_all joined given (console + 1) (c.args.consoles - (console + 1)) w).after) world
           ∙ sym (enters_next joined given console c.args.consoles here.world c.loop-console-test.true) ∙ kept.world;
     }
@@ -32,4 +33,4 @@ returns c =
     let none : c.args.consoles - c.loop-console.console ≡ 0 = omega (arith, c.loop-console-test.false) in
     let world : c.loop-console.system.world ≡ (enter_all joined given 0 c.args.consoles c.args.system.now.world).after =
     sym (ap (λ (n : ℕ). (enter_all joined given c.loop-console.console n c.loop-console.system.world).after) none) ∙ kept.world in
-    λ i. record { network = kept.network i; world = world i }
+    λ i. record { network = kept.network i; world = world i; tally = kept.tally i }

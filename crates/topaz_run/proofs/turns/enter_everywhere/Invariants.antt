@@ -10,5 +10,6 @@ invariant-loop-console l =
     let given = given_at (given_by l.script) l.turn in
     record {
       network : l.system.network ≡ joined;
+      tally : l.system.tally ≡ l.fn.system.tally;
       world : (enter_all joined given l.console (l.consoles - l.console) l.system.world).after ≡ (enter_all joined given 0 l.consoles l.fn.system.world).after;
     }
